@@ -1,0 +1,4 @@
+pub mod Turns
+pub mod Find
+pub mod Lists
+pub mod Packed
