@@ -1,0 +1,2 @@
+pub mod ShuffleLemmas
+pub mod NextLemmas
