@@ -1,4 +1,4 @@
-use Rattle.std.proofs.Common.{◌≡◌, ℕ, ◌+◌, ◌-◌, ◌*◌, ◌<◌, ◌≤◌, Bool, true, false, cond, eqb, leb, min, add-one, ◌^◌, List, [], ◌∷◌, ◌++◌, length, take, drop, vec_capacity, vec_len, refl, sym, ◌∙◌, ap, arith, ⊎_elim, Some, None, option_and_then, ◌↔◌}
+use Rattle.std.proofs.Common.{◌≡◌, ◌==◌, if◌then◌else◌, nat_le, ℕ, ◌+◌, ◌-◌, ◌*◌, ◌<◌, ◌≤◌, Bool, true, false, min, add-one, ◌^◌, List, [], ◌∷◌, ◌++◌, length, take, drop, vec_capacity, vec_len, refl, sym, ◌∙◌, ap, arith, ⊎_elim, Some, None, option_and_then, ◌↔◌}
 use Rattle.std.proofs.lemmas.List.{length-drop, length-take, drop-take, take-take, take_all, length-append, take-append-le, take-append-drop}
 use Rattle.std.proofs.lemmas.Bool.{eq-eqb, ne_eqb, leb-true}
 use Rattle.std.proofs.lemmas.Bool.Decides.{eqb_tells}
@@ -71,7 +71,7 @@ rotated_packed a s e h o k =
       room = h.room;
     }
 
-same_test : (x y z w : ℕ) → (x ≡ y → z ≡ w) → (z ≡ w → x ≡ y) → eqb x y ≡ eqb z w
+same_test : (x y z w : ℕ) → (x ≡ y → z ≡ w) → (z ≡ w → x ≡ y) → (x == y) ≡ (z == w)
 same_test x y z w f g = ⊎_elim
     (λ p. p.0 ∙ sym (eq-eqb z w (f p.1)))
     (λ p. p.0 ∙ sym (ne_eqb z w (λ e. p.1 (g e))))
@@ -102,12 +102,12 @@ last_fits a s ms r e h o p =
     omega arith
 
 -- which end a cache has
-pub end_cases : (b : Bool) (x y : ℕ) → y ≤ x → (y ≤ cond b x y) × (cond b x y ≤ x)
+pub end_cases : (b : Bool) (x y : ℕ) → y ≤ x → (y ≤ (if b then x else y)) × ((if b then x else y) ≤ x)
 end_cases true x y h = (h, omega arith)
 end_cases false x y h = (omega arith, h)
 
 pub evicted_packed : (a n : Inside) (s : Cache) (r : Record) → cache_of a ≡ s → IsPacked a → 0 < length s.old → Pops a n r
-    → n.end ≡ cond (eqb n.young (length n.records.items)) (capacity a.size) a.end → IsPacked n
+    → n.end ≡ (if n.young == length n.records.items then capacity a.size else a.end) → IsPacked n
 evicted_packed a n s r e h o p q =
     let y = some_old a h (less_of _ _ (ap (λ (c : Cache). length c.old) e) o) in
     let f = fewer a n r p in
@@ -120,7 +120,7 @@ evicted_packed a n s r e h o p q =
     (λ i. take (p.young i) n.records.items) ∙ sym (take-append-le a.young n.records.items (r ∷ []) (omega arith)) ∙ ap (take a.young) (sym p.records) in
     let d = sizes-drop_last a.young a.records.items n.records.items r p.records (omega arith) in
     let old = h.old_size in
-    let end = end_cases (eqb n.young (length n.records.items)) (capacity a.size) a.end h.end in
+    let end = end_cases (n.young == length n.records.items) (capacity a.size) a.end h.end in
     let e0 = end.0 in
     let e1 = end.1 in
     record {
@@ -133,12 +133,12 @@ evicted_packed a n s r e h o p q =
       old_size = let v : sizes (drop n.young n.records.items) ≡ sizes (drop a.young n.records.items) = ap (λ k. sizes (drop k n.records.items)) p.young in omega arith;
       fits = omega arith;
       end = omega (arith, ap capacity p.size);
-      none_old = λ z. q ∙ ap (λ b. cond b (capacity a.size) a.end) (eq-eqb n.young (length n.records.items) (omega arith)) ∙ ap capacity (sym p.size);
+      none_old = λ z. q ∙ ap (λ b. if b then capacity a.size else a.end) (eq-eqb n.young (length n.records.items) (omega arith)) ∙ ap capacity (sym p.size);
       room = let r0 = h.room in let c0 = p.capacity in omega arith;
     }
 
 pub evicted_view : (a n : Inside) (s : Cache) (r : Record) → cache_of a ≡ s → IsPacked a → 0 < length s.old → Pops a n r
-    → n.end ≡ cond (eqb n.young (length n.records.items)) (capacity a.size) a.end → cache_of n ≡ evicted s
+    → n.end ≡ (if n.young == length n.records.items then capacity a.size else a.end) → cache_of n ≡ evicted s
 evicted_view a n s r e h o p q =
     let y = some_old a h (less_of _ _ (ap (λ (c : Cache). length c.old) e) o) in
     let es : List Entry = entries a.records.items a.bytes.items in
@@ -157,14 +157,14 @@ evicted_view a n s r e h o p q =
     let m' : k - a.young ≡ length (drop a.young es) - 1 = omega arith in
     let old : drop n.young (entries n.records.items n.bytes.items) ≡ take (length (drop a.young es) - 1) (drop a.young es) =
     (λ i. drop (p.young i) (ms i)) ∙ ap (λ j. drop a.young (take j es)) m ∙ drop-take a.young (k - a.young) es ∙ ap (λ j. take j (drop a.young es)) m' in
-    let end : n.end ≡ cond (eqb (length (drop a.young es)) 1) (capacity a.size) a.end = q ∙ ap (λ b. cond b (capacity a.size) a.end) (same_test n.young k (length (drop a.young es)) 1 (λ z. omega arith) (λ z. omega arith)) in
+    let end : n.end ≡ (if length (drop a.young es) == 1 then capacity a.size else a.end) = q ∙ ap (λ b. if b then capacity a.size else a.end) (same_test n.young k (length (drop a.young es)) 1 (λ z. omega arith) (λ z. omega arith)) in
     (λ i. let c : Cache = record { size = p.size i; young = young i; old = old i; end = end i; motion = p.motion i } in c) ∙ ap evicted e
 
-pub end_stays : (x k cap e : ℕ) → (x ≡ k → ⊥) → e ≡ cond (eqb x k) cap e
-end_stays x k cap e h = sym (ap (λ b. cond b cap e) (ne_eqb x k h))
+pub end_stays : (x k cap e : ℕ) → (x ≡ k → ⊥) → e ≡ (if x == k then cap else e)
+end_stays x k cap e h = sym (ap (λ b. if b then cap else e) (ne_eqb x k h))
 
-pub end_grows : (x k cap e v : ℕ) → x ≡ k → v ≡ cap → v ≡ cond (eqb x k) cap e
-end_grows x k cap e v h w = w ∙ sym (ap (λ b. cond b cap e) (eq-eqb x k h))
+pub end_grows : (x k cap e v : ℕ) → x ≡ k → v ≡ cap → v ≡ (if x == k then cap else e)
+end_grows x k cap e v h w = w ∙ sym (ap (λ b. if b then cap else e) (eq-eqb x k h))
 
 pub room_is : (a : Inside) (s : Cache) (n : ℕ) → cache_of a ≡ s → IsPacked a → has_room s n ≡ true → a.young_size + a.old_size + n ≤ a.end
 room_is a s n e h r =
@@ -245,12 +245,12 @@ used_is a n h e =
     let p = h.young_size in let q = h.old_size in
     omega arith
 
-pub has_room_view : (a : Inside) (s : Cache) (n : ℕ) → cache_of a ≡ s → IsPacked a → leb (a.young_size + n) (a.end - a.old_size) ≡ has_room s n
+pub has_room_view : (a : Inside) (s : Cache) (n : ℕ) → cache_of a ≡ s → IsPacked a → nat_le (a.young_size + n) (a.end - a.old_size) ≡ has_room s n
 has_room_view a s n e h =
     let u = used a h in
     let x = h.young_size ∙ sym (total-take a.young a.records.items a.bytes.items u) in
     let y = h.old_size ∙ sym (total-drop a.young a.records.items a.bytes.items u) in
-    (λ i. leb (x i + n) (a.end - y i)) ∙ ap (λ (c : Cache). has_room c n) e
+    (λ i. nat_le (x i + n) (a.end - y i)) ∙ ap (λ (c : Cache). has_room c n) e
 
 pub no_old_view : (a : Inside) (s : Cache) (k : ℕ) → cache_of a ≡ s → IsPacked a → k ≡ vec_len a.records → (a.young ≡ k) ↔ (length s.old ≡ 0)
 no_old_view a s k e h l =

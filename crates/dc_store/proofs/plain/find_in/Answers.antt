@@ -1,4 +1,4 @@
-use Rattle.std.proofs.Common.{◌≡◌, ◌-◌, suc, arith, sym, ◌∙◌, ap, get_or, drop, length, ◌<◌}
+use Rattle.std.proofs.Common.{◌≡◌, ◌-◌, suc, arith, sym, ◌∙◌, ap, slice_index_or, drop, length, ◌<◌}
 use Rattle.dc_model.specs.Cache.{Entry}
 use Rattle.dc_store.specs.Lists.{entries}
 use Rattle.dc_store.specs.Found.{look_up}
@@ -17,7 +17,7 @@ returns-then-eq c = λ size h.
     let i : l.record-index < length c.args.records.now = omega arith in
     let n : 101 - l.seen ≡ suc (100 - l.seen) = omega arith in
     let s = entries_step c.args.records.now none c.args.bytes.now l.record-index l.at i in
-    let e : Entry = entry_at (get_or c.args.records.now l.record-index none) l.at c.args.bytes.now in
+    let e : Entry = entry_at (slice_index_or c.args.records.now l.record-index none) l.at c.args.bytes.now in
     sym (look_hit (100 - l.seen) size c.args.key.now e _
     (same_bucket size _ _ e.key c.args.key.now (c.bucket_of.ensures size h) (c.bucket_of-bucket.ensures size h) c.if-bucket_of-bucket.true)
     (sym c.eq.ensures ∙ c.if-eq.true))
@@ -31,7 +31,7 @@ returns-then-seen-eq101 c = λ size h.
     let l = c.loop-record in
     let i : l.record-index < length c.args.records.now = omega arith in
     let n : 101 - l.seen ≡ 1 = omega arith in
-    let e : Entry = entry_at (get_or c.args.records.now l.record-index none) l.at c.args.bytes.now in
+    let e : Entry = entry_at (slice_index_or c.args.records.now l.record-index none) l.at c.args.bytes.now in
     missed c.args.records.now none c.args.bytes.now l.record-index l.at size c.args.key.now _ i 0
     (ap (λ k. look_up k size c.args.key.now (entries (drop l.record-index c.args.records.now) (drop l.at c.args.bytes.now))) (sym n) ∙ l.invariant.same size h)
     (same_bucket size _ _ e.key c.args.key.now (c.bucket_of.ensures size h) (c.bucket_of-bucket.ensures size h) c.if-bucket_of-bucket.true)
@@ -43,7 +43,7 @@ loop-record-preserved c =
     let l = c.loop-record in
     let i : l.record-index < length c.args.records.now = omega arith in
     let p = payload_step c.args.records.now none l.record-index i in
-    let e : Entry = entry_at (get_or c.args.records.now l.record-index none) l.at c.args.bytes.now in
+    let e : Entry = entry_at (slice_index_or c.args.records.now l.record-index none) l.at c.args.bytes.now in
     elim c.if-bucket_of-bucket.branch [
       | then-bucket_of-bucket+else-eq+else-seen-eq101 w ↦
           let n : 101 - l.seen ≡ suc (101 - c.if-bucket_of-bucket.seen) = omega arith in
