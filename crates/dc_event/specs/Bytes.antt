@@ -1,0 +1,36 @@
+-- Bytes that are taken from a front, and bytes that are put behind others.
+use Rattle.std.specs.Prelude.{◌≡◌, ℕ, List, [], ◌++◌, refl}
+use Rattle.std.proofs.Common.{sym, ◌∙◌, ap, append_assoc}
+use Rattle.std.proofs.lemmas.List.{append-nil}
+use Rattle.std.specs.declared.option.Option.{Option}
+use Rattle.std.specs.declared.option.Option.TheVariants.{None, Some}
+use Rattle.dc_event.specs.Told.{Grows}
+
+-- Bytes in memory: what was taken, and what is left.
+pub record Tape : Type 0 where
+  pub taken : List ℕ
+  pub left : List ℕ
+
+-- These bytes were taken between the two.
+pub record Moved (old : Tape) (bytes : List ℕ) (new : Tape) : Type 0 where
+  pub behind : new.taken ≡ old.taken ++ bytes
+  pub ahead : old.left ≡ bytes ++ new.left
+
+pub Moved-none : (a : Tape) → Moved a [] a
+Moved-none a = record { behind = sym (append-nil a.taken); ahead = refl }
+
+pub Moved-both : (a b c : Tape) (xs ys : List ℕ) → Moved a xs b → Moved b ys c → Moved a (xs ++ ys) c
+Moved-both a b c xs ys p q = record {
+  behind = q.behind ∙ ap (λ l. l ++ ys) p.behind ∙ append_assoc a.taken xs ys;
+  ahead = p.ahead ∙ ap (λ l. xs ++ l) q.ahead ∙ sym (append_assoc xs ys c.left);
+}
+
+pub Grows-none : (a : Option (List ℕ)) → Grows a [] a
+Grows-none None = tt
+Grows-none (Some x) = sym (append-nil x)
+
+pub Grows-both : (a b c : Option (List ℕ)) (xs ys : List ℕ) → Grows a xs b → Grows b ys c → Grows a (xs ++ ys) c
+Grows-both a b None xs ys p q = tt
+Grows-both a None (Some z) xs ys p q = absurd q
+Grows-both None (Some y) (Some z) xs ys p q = absurd p
+Grows-both (Some x) (Some y) (Some z) xs ys p q = q ∙ ap (λ l. l ++ ys) p ∙ append_assoc x xs ys

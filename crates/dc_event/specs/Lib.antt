@@ -1,0 +1,10 @@
+pub mod View
+pub mod Told
+pub mod Causes
+pub mod Answers
+pub mod Bytes
+pub mod Known
+pub mod Quiet
+pub mod Scripted
+pub mod Automaton
+pub mod Host

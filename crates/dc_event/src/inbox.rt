@@ -1,0 +1,86 @@
+//! The place of one event with its bytes.
+ghost use Rattle.std.specs.Prelude.{◌≡◌, ℕ, [], ◌∷◌, ◌^◌, ◌<◌, ◌≤◌, length, take, IfOk};
+ghost use Rattle.dc_model.specs.Event.{IsEvent, tick};
+ghost use Rattle.dc_event.specs.View.{kind_of, event_of};
+
+use crate::{Event, Kind};
+use std::alloc::{AllocError, Global};
+use std::marker::Model;
+
+/// The most bytes that come with an event.
+pub const MOST_BYTES: usize = 65535;
+
+/// Copies these bytes to the front.
+fn fill(buffer: &mut [u8], bytes: &[u8])
+    requires { length bytes.now ≤ length buffer.old }
+    ensures front { take (length bytes.now) buffer.new ≡ bytes.now }
+    ensures len { length buffer.new ≡ length buffer.old }
+{
+    buffer[..bytes.len()].copy_from_slice(bytes);
+}
+
+/// One event with its bytes. Contracts see the event that `dc_model` has.
+#[derive(Drop)]
+pub struct Inbox {
+    event: Event,
+    buffer: Vec<u8>,
+}
+
+impl Model for Inbox {
+    ghost use Rattle.std.specs.Prelude.{◌≡◌, ◌^◌, ◌<◌, ◌≤◌, take, length};
+    ghost use Rattle.dc_model.specs.Event.{Event as ModelEvent, IsEvent};
+    ghost use Rattle.dc_event.specs.View.{event_of};
+
+    ghost Value = { ModelEvent };
+
+    ghost view = { λ a. event_of a.event (take a.event.len a.buffer.items) };
+
+    ghost invariant = { λ a. (a.event.len ≤ 65535) × (length a.buffer.items ≡ 65535) × IsEvent (event_of a.event (take a.event.len a.buffer.items)) };
+}
+
+impl Inbox {
+    /// An inbox with a Tick at 0. It takes all memory that it needs.
+    pub fn new(alloc: Global) -> Result<Inbox, AllocError>
+        ensures { IfOk result (λ inbox. inbox ≡ record { now = 0; kind = tick; id = 0; addr = 0 ∷ 0 ∷ 0 ∷ 0 ∷ []; port = 0; bytes = [] }) }
+    {
+        let event = Event {
+            now: 0,
+            kind: Kind::Tick,
+            id: 0,
+            addr: [0; 4],
+            port: 0,
+            len: 0,
+        };
+        let buffer = vec![in alloc; 0u8; MOST_BYTES]?;
+        Ok(Inbox { event, buffer })
+    }
+
+    /// The event, and how many bytes came with it.
+    pub fn event(&self) -> Event
+        ensures event { event_of result self.now.bytes ≡ self.now }
+        ensures len { result.len ≡ length self.now.bytes }
+        ensures bounds { IsEvent self.now }
+    {
+        self.event
+    }
+
+    /// The bytes that came with the event.
+    pub fn bytes(&self) -> &[u8]
+        ensures bytes { result.now ≡ self.now.bytes }
+        ensures most { length result.now ≤ 65535 }
+    {
+        &self.buffer[..self.event.len]
+    }
+
+    /// Puts an event with its bytes in place of the one before.
+    pub fn set(&mut self, event: Event, bytes: &[u8])
+        requires len { event.len ≡ length bytes.now }
+        requires most { event.len ≤ 65535 }
+        requires moment { event.now < 2 ^ 62 }
+        ensures event { self.new ≡ event_of event bytes.now }
+        ensures bounds { IsEvent self.new }
+    {
+        self.event = event;
+        fill(&mut self.buffer, bytes);
+    }
+}
