@@ -1,0 +1,34 @@
+-- The text of actions, a line each.
+use Rattle.std.specs.Prelude.{ℕ, List, [], ◌∷◌, ◌++◌, map, flat_map, codes, decimal}
+use Rattle.std.specs.List.{join_with_byte}
+use Rattle.dc_model.specs.Event.{Action, reply, conn_reply, conn_close, udp, tcp, link_write, link_close, line}
+use Rattle.dc_model.specs.Line.{hex, words}
+
+-- Bytes in hexadecimal digits, or a dash where there are none.
+abbrev pub bytes_text : List ℕ → List ℕ
+bytes_text [] = codes "-"
+bytes_text (b ∷ bs) = hex (b ∷ bs)
+
+-- An address as four numbers joined by dots.
+abbrev pub address_text : List ℕ → List ℕ
+address_text addr = join_with_byte 46 (map decimal addr)
+
+-- The words of an action. Numbers are decimal.
+abbrev pub action_words : Action → List (List ℕ)
+action_words (reply addr port bytes) = codes "reply" ∷ address_text addr ∷ decimal port ∷ bytes_text bytes ∷ []
+action_words (conn_reply conn bytes) = codes "connreply" ∷ decimal conn ∷ bytes_text bytes ∷ []
+action_words (conn_close conn) = codes "connclose" ∷ decimal conn ∷ []
+action_words (udp link local_port server query) =
+    codes "udp" ∷ decimal link ∷ decimal local_port ∷ address_text server ∷ bytes_text query ∷ []
+action_words (tcp link local_port server) = codes "tcp" ∷ decimal link ∷ decimal local_port ∷ address_text server ∷ []
+action_words (link_write link bytes) = codes "linkwrite" ∷ decimal link ∷ bytes_text bytes ∷ []
+action_words (link_close link) = codes "linkclose" ∷ decimal link ∷ []
+action_words (line text) = codes "line" ∷ text ∷ []
+
+-- The line of an action: its words with a space between each two, and a line feed.
+unfoldable pub action_text : Action → List ℕ
+action_text a = words (action_words a) ++ (10 ∷ [])
+
+-- The lines of actions, in order.
+unfoldable pub text_of : List Action → List ℕ
+text_of as' = flat_map action_text as'

@@ -1,0 +1,9 @@
+//! Recorded worlds: scripts of events, and the text of actions.
+#![tactic(auto)]
+
+pub mod action;
+mod text;
+mod write;
+
+pub use action::Action;
+pub use write::write_action;
