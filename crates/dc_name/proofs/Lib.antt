@@ -1,0 +1,4 @@
+pub mod AddressLemmas
+pub mod NumberLemmas
+pub mod TextLemmas
+pub mod WireLemmas
