@@ -4,7 +4,8 @@
 ghost use Rattle.std.specs.Prelude.{◌≡◌, ℕ, ◌+◌, ◌<◌, ◌≤◌, ◌^◌, ◌⊎◌, length, List, replicate, IfOk};
 ghost use Rattle.dc_model.specs.Block.{get4, set4, get8, set8, part, stored};
 
-use std::alloc::{AllocError, Global};
+pub use std::alloc::AllocError as NoMemory;
+use std::alloc::Global;
 use std::marker::Model;
 
 /// A block of fewer than 2^32 bytes, whose size never changes.
@@ -23,7 +24,7 @@ impl Model for Arena {
 
 impl Arena {
     /// `size` zero bytes.
-    pub fn new(alloc: Global, size: u32) -> Result<Arena, AllocError>
+    pub fn new(alloc: Global, size: u32) -> Result<Arena, NoMemory>
         ensures { IfOk result (λ a. a ≡ replicate size 0) }
     {
         Ok(Arena {

@@ -15,7 +15,8 @@ mod steps;
 
 use dc_arena::Arena;
 use dc_bucket::{bucket_of, hsize_of};
-use std::alloc::{AllocError, Global};
+pub use std::alloc::AllocError as NoMemory;
+use std::alloc::Global;
 use std::marker::Model;
 use std::sync::ledger::Ledger;
 pub use steps::Steps;
@@ -50,7 +51,7 @@ impl Model for Chains {
 
 impl Chains {
     /// A block of zeros: all chains are empty.
-    pub fn new(alloc: Global, size: u32) -> Result<Chains, AllocError>
+    pub fn new(alloc: Global, size: u32) -> Result<Chains, NoMemory>
         requires least { 100 ≤ size }
         requires most { size ≤ 1000000000 }
         ensures bytes { IfOk result (λ c. c ≡ replicate size 0) }

@@ -10,6 +10,7 @@ ghost use Rattle.dc_store.specs.Lent.{hit_value};
 mod plain;
 
 pub use plain::PlainStore;
+pub use std::alloc::AllocError as NoMemory;
 
 /// What a look-up found: the body, lent by the store, and for how many seconds it is still known.
 #[derive(Clone, Copy)]

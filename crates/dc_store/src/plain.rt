@@ -4,9 +4,9 @@ ghost use Rattle.dc_model.specs.Cache.{Cache, Entry, hsize, evicted, rotated, ad
 ghost use Rattle.dc_store.specs.Lists.{entries, payload};
 ghost use Rattle.dc_store.specs.Found.{entry_of, look_up};
 
-use crate::{Hit, Store};
+use crate::{Hit, NoMemory, Store};
 use dc_bucket::{bucket_of, hsize_of};
-use std::alloc::{AllocError, Global};
+use std::alloc::Global;
 use std::marker::Model;
 
 /// The lengths of an entry's key and body, and its last second.
@@ -104,7 +104,7 @@ fn size_of_record(of: &Record) -> usize
 impl PlainStore {
     /// An empty cache of a size that is brought into 100 to 1000000000.
     #[tactic(auto, using(dc_model::proofs::SizeLemmas::hsize_most))]
-    pub fn new(alloc: Global, size: u32) -> Result<PlainStore, AllocError>
+    pub fn new(alloc: Global, size: u32) -> Result<PlainStore, NoMemory>
         ensures { IfOk result (λ s. s ≡ empty (min (max size 100) 1000000000)) }
     {
         let size = size.max(100).min(1000000000);
