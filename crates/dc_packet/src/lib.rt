@@ -1,0 +1,15 @@
+//! Messages of the domain name system, read from packets and written into them (RFC 1035, 4).
+//!
+//! A packet has at most 65535 bytes, as both UDP and the length before a message in TCP allow no more.
+#![tactic(auto)]
+
+mod malformed;
+mod name;
+mod number;
+mod part;
+mod question;
+mod request;
+
+pub use malformed::Malformed;
+pub use name::read_name;
+pub use request::{Request, read_request};
