@@ -190,3 +190,12 @@ first_behind (Some x) at most h k = h
 pub last_behind : (a : Option ℕ) (at most : ℕ) → unwrap_or a 0 ≤ most → at ≤ most → unwrap_or a at ≤ most
 last_behind None at most h k = k
 last_behind (Some x) at most h k = h
+
+-- the place behind a name is past the place where it stands
+pub later_behind : (a : Option ℕ) (pos at next : ℕ) → at ≤ next → pos < unwrap_or a (at + 1) → pos < unwrap_or a (next + 1)
+later_behind None pos at next h k = omega arith
+later_behind (Some x) pos at next h k = k
+
+pub first_later : (a : Option ℕ) (pos at next : ℕ) → pos < unwrap_or a (at + 1) → pos < unwrap_or (option_or a (Some (at + 2))) next
+first_later None pos at next k = omega arith
+first_later (Some x) pos at next k = k

@@ -1,3 +1,4 @@
+pub mod Data
 pub mod Part
 pub mod Question
 pub mod Reading

@@ -3,13 +3,19 @@
 //! A packet has at most 65535 bytes, as both UDP and the length before a message in TCP allow no more.
 #![tactic(auto)]
 
+mod data;
 mod malformed;
 mod name;
 mod number;
 mod part;
+mod query;
 mod question;
 mod request;
+mod ttl;
 
+pub use data::Data;
 pub use malformed::Malformed;
 pub use name::read_name;
+pub use query::{QueryBytes, write_query};
 pub use request::{Request, read_request};
+pub use ttl::kept_ttl;

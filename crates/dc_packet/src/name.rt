@@ -18,7 +18,8 @@ pub fn read_name(packet: &[u8], pos: usize) -> Result<(Name, usize), Malformed>
     requires { length packet.now ≤ 65535 }
     ensures read { MatchResult result (λ r. IsNameAt packet.now pos r.0 r.1) (λ _. model.name_at packet.now pos ≡ None) }
     ensures name { IfOk result (λ r. model.IsName r.0) }
-    ensures after { IfOk result (λ r. r.1 ≤ length packet.now) }
+    ensures after { IfOk result (λ r. pos < r.1) }
+    ensures within { IfOk result (λ r. r.1 ≤ length packet.now) }
 {
     let mut name = Name::root();
     let mut pointers = 0;

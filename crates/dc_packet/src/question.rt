@@ -27,6 +27,7 @@ pub(crate) fn question_of(packet: &[u8]) -> Option<Question>
     ensures question { option_map question_read result ≡ model.question_of packet.now }
     ensures name { IfSome result (λ q. IsName q.name) }
     ensures header { IfSome result (λ q. 12 ≤ length packet.now) }
+    ensures after { IfSome result (λ q. 17 ≤ q.after) }
     ensures within { IfSome result (λ q. q.after ≤ length packet.now) }
 {
     if packet.len() < HEADER || u16_at(packet, 4) != 1 {

@@ -1,13 +1,14 @@
 use Rattle.std.proofs.Common.{◌≡◌, ◌+◌, ◌∷◌, ◌++◌, [], length, ap, sym, ◌∙◌, subst, inl, inr, arith, None}
 use Rattle.dc_model.specs.Name as model
 use Rattle.dc_name.proofs.TextLemmas.{length-wire-push}
-use Rattle.dc_packet.proofs.WalkLemmas.{IsWalk, walk_start, walk_label, walk_pointer, walk_end, walk_past_label, walk_past_pointer, too_long, push_is, first_behind, last_behind}
+use Rattle.dc_packet.proofs.WalkLemmas.{IsWalk, walk_start, walk_label, walk_pointer, walk_end, walk_past_label, walk_past_pointer, too_long, push_is, first_behind, last_behind, later_behind, first_later}
 use Rattle.dc_packet.proofs.name.read_name.Goals as goal
 use Rattle.dc_packet.proofs.name.read_name.Goals.{In-Some-Label, In-Some-Pointer, In-Some-End}
 
 pub loop-name-init : goal.loop-name-init
 loop-name-init c = record {
   walk = subst (λ n. IsWalk c.args.packet.now c.args.pos n None 0 c.args.pos) (sym c.root-name.ensures) (walk_start c.args.packet.now c.args.pos);
+  after = omega arith;
   within = omega arith;
 }
 
@@ -26,7 +27,10 @@ returns-in-Some-End-clause-read c = record {
 }
 
 pub returns-in-Some-End-clause-after : goal.returns-in-Some-End-clause-after
-returns-in-Some-End-clause-after c =
+returns-in-Some-End-clause-after c = rw c.unwrap_or.ensures c.loop-name.invariant.after
+
+pub returns-in-Some-End-clause-within : goal.returns-in-Some-End-clause-within
+returns-in-Some-End-clause-within c =
     let here = rw c.in-Some-End.field-0-is at c.in-Some-End.ensures.within in
     rw c.unwrap_or.ensures (last_behind c.loop-name.after (c.loop-name.at + 1) (length c.args.packet.now) c.loop-name.invariant.within here)
 
@@ -63,6 +67,7 @@ loop-name-preserved-in-Some-Label c =
     record {
       walk = walk_label c.args.packet.now c.args.pos c.loop-name.name c.push.new.self c.loop-name.after c.loop-name.pointers c.loop-name.at label c.loop-name.invariant.walk read pushed
           c.wire.ensures.name (omega (arith, len, c.if-wire-pointers-gt-MOST_STEPS.false));
+      after = later_behind c.loop-name.after c.args.pos c.loop-name.at (c.loop-name.at + (1 + length label)) (omega arith) c.loop-name.invariant.after;
       within = c.loop-name.invariant.within;
     }
 
@@ -82,5 +87,6 @@ loop-name-preserved c =
     record {
       walk = rw c.or-after.ensures (walk_pointer c.args.packet.now c.args.pos c.loop-name.name c.loop-name.after c.loop-name.pointers c.loop-name.at c.in-Some-Pointer.to c.loop-name.invariant.walk read
           (omega (arith, len, c.if-wire-pointers-gt-MOST_STEPS-2.false)));
+      after = rw c.or-after.ensures (first_later c.loop-name.after c.args.pos c.loop-name.at (c.in-Some-Pointer.to + 1) c.loop-name.invariant.after);
       within = rw c.or-after.ensures (first_behind c.loop-name.after (c.loop-name.at + 2) (length c.args.packet.now) c.loop-name.invariant.within here);
     }
