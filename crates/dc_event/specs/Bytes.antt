@@ -25,11 +25,11 @@ Moved-both a b c xs ys p q = record {
   ahead = p.ahead ∙ ap (λ l. xs ++ l) q.ahead ∙ sym (append_assoc xs ys c.left);
 }
 
-pub Grows-none : (a : Option (List ℕ)) → Grows a [] a
+pub Grows-none : {A : Type 0} (a : Option (List A)) → Grows a [] a
 Grows-none None = tt
 Grows-none (Some x) = sym (append-nil x)
 
-pub Grows-both : (a b c : Option (List ℕ)) (xs ys : List ℕ) → Grows a xs b → Grows b ys c → Grows a (xs ++ ys) c
+pub Grows-both : {A : Type 0} (a b c : Option (List A)) (xs ys : List A) → Grows a xs b → Grows b ys c → Grows a (xs ++ ys) c
 Grows-both a b None xs ys p q = tt
 Grows-both a None (Some z) xs ys p q = absurd q
 Grows-both None (Some y) (Some z) xs ys p q = absurd p

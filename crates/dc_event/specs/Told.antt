@@ -11,11 +11,11 @@ Tells {W} {A} gained old new = (xs ys : List A) → gained old xs new → gained
 abbrev pub TellsAmong : {W A : Type 0} → (List A → Type 0) → (W → List A → W → Type 0) → W → W → Type 0
 TellsAmong {W} {A} P gained old new = (xs ys : List A) → P xs → P ys → gained old xs new → gained old ys new → xs ≡ ys
 
--- What is held grew by these bytes. Once it isn't told, it never is again.
-abbrev pub Grows : Option (List ℕ) → List ℕ → Option (List ℕ) → Type 0
-Grows old bytes None = Unit {0}
-Grows None bytes (Some new) = ⊥
-Grows (Some old) bytes (Some new) = new ≡ old ++ bytes
+-- A list that is kept grew by these. Once it isn't told, it never is again.
+abbrev pub Grows : {A : Type 0} → Option (List A) → List A → Option (List A) → Type 0
+Grows old more None = Unit {0}
+Grows None more (Some new) = ⊥
+Grows (Some old) more (Some new) = new ≡ old ++ more
 
 -- The text begins so.
 abbrev pub BeginsWith : List ℕ → List ℕ → Type 0

@@ -28,3 +28,6 @@ pub use scripted::{MemorySink, MemorySource};
 pub use stream::{Sink, Source};
 pub use whole::put_all;
 pub use world::{Effects, World};
+
+#[cfg(test)]
+mod tests;
