@@ -5,7 +5,10 @@ use Rattle.dc_script.specs.declared.action.Action.{Action}
 use Rattle.dc_script.specs.declared.action.Action.TheVariants.{Reply, ConnReply, ConnClose, Udp, Tcp, LinkWrite, LinkClose, Line}
 use Rattle.dc_script.specs.declared.text.Rest.{Rest}
 use Rattle.dc_script.specs.declared.text.Rest.TheVariants.{Bytes, Text, Nothing}
+use Rattle.dc_script.specs.declared.event_line.EventLine.{EventLine}
+use Rattle.dc_event.specs.View.{event_of}
 use Rattle.dc_script.specs.Text.{bytes_text}
+use Rattle.dc_script.specs.Script.{bytes_spelled}
 
 -- The action that is written.
 abbrev pub action_of : Action → model.Action
@@ -23,3 +26,7 @@ abbrev pub rest_text : Rest → List ℕ
 rest_text (Bytes bytes) = bytes_text bytes.now
 rest_text (Text text) = text.now
 rest_text Nothing = []
+
+-- The event that a line says.
+abbrev pub line_says : EventLine → model.Event
+line_says l = event_of l.event (bytes_spelled l.digits.now)

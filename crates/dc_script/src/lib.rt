@@ -2,6 +2,8 @@
 #![tactic(auto)]
 
 pub mod action;
+mod digits;
+mod event_line;
 mod text;
 mod write;
 

@@ -1,5 +1,5 @@
 use Rattle.std.proofs.Common.{◌≡◌, ◌<◌, length, arith}
-use Rattle.dc_script.proofs.Digits.{length-bytes_text_some, length-bytes_text_none}
+use Rattle.dc_script.proofs.Hex.{length-bytes_text_some, length-bytes_text_none}
 use Rattle.dc_script.proofs.text.with_digits.Goals as goal
 
 pub returns-in-0 : goal.returns-in-0

@@ -1,5 +1,5 @@
 use Rattle.std.proofs.Common.{arith, ◌<◌, slice_index, ℕ}
-use Rattle.dc_script.proofs.Digits.{encode_is_hex}
+use Rattle.dc_script.proofs.Hex.{encode_is_hex}
 use Rattle.dc_script.proofs.write.write_digits.Goals as goal
 
 pub returns-clause-put : goal.returns-clause-put

@@ -1,7 +1,7 @@
 use Rattle.std.proofs.Common.{arith, ◌+◌, take, drop, ◌≤◌, length, sym, true, false}
 use Rattle.std.proofs.lemmas.List.{append-nil}
 use Rattle.dc_model.specs.Line.{hex}
-use Rattle.dc_script.proofs.Digits.{hex-append}
+use Rattle.dc_script.proofs.Hex.{hex-append}
 use Rattle.dc_script.proofs.Passing.{passed_kept, passed_both, passed_early, piece_more, take_whole, front_and_rest}
 use Rattle.dc_script.proofs.write.write_hex.Goals as goal
 
