@@ -7,6 +7,9 @@ ghost use Rattle.dc_model.specs.Event.{Event};
 ghost use Rattle.dc_event.specs.Automaton.{Automaton};
 ghost use Rattle.dc_serve.specs.Serve.{Serves, Justified};
 
+#[cfg(test)]
+mod tests;
+
 use dc_draws::Draws;
 use dc_event::{Engine, Heard, Inbox, World};
 
