@@ -1,4 +1,6 @@
 pub mod Data
+pub mod Filling
 pub mod Part
 pub mod Question
 pub mod Reading
+pub mod Rows

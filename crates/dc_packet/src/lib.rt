@@ -10,12 +10,17 @@ mod number;
 mod part;
 mod query;
 mod question;
+mod record;
 mod request;
+mod rows;
+mod table;
 mod ttl;
 
 pub use data::Data;
 pub use malformed::Malformed;
 pub use name::read_name;
 pub use query::{QueryBytes, write_query};
+pub use record::{Rr, Section};
 pub use request::{Request, read_request};
+pub use table::Table;
 pub use ttl::kept_ttl;
