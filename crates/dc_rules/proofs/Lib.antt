@@ -1,0 +1,4 @@
+pub mod Tables
+pub mod Nearest
+pub mod Permissions
+pub mod Filling

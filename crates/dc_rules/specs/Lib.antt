@@ -1,0 +1,6 @@
+pub mod Refusals
+pub mod Table
+pub mod Held
+pub mod Allowed
+pub mod Lines
+pub mod Settings
