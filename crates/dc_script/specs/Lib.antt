@@ -2,3 +2,4 @@ pub mod Text
 pub mod Put
 pub mod View
 pub mod Script
+pub mod Lines

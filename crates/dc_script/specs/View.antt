@@ -5,7 +5,7 @@ use Rattle.dc_script.specs.declared.action.Action.{Action}
 use Rattle.dc_script.specs.declared.action.Action.TheVariants.{Reply, ConnReply, ConnClose, Udp, Tcp, LinkWrite, LinkClose, Line}
 use Rattle.dc_script.specs.declared.text.Rest.{Rest}
 use Rattle.dc_script.specs.declared.text.Rest.TheVariants.{Bytes, Text, Nothing}
-use Rattle.dc_script.specs.declared.event_line.EventLine.{EventLine}
+use Rattle.dc_script.specs.declared.events.EventLine.{EventLine}
 use Rattle.dc_event.specs.View.{event_of}
 use Rattle.dc_script.specs.Text.{bytes_text}
 use Rattle.dc_script.specs.Script.{bytes_spelled}

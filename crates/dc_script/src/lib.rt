@@ -3,9 +3,13 @@
 
 pub mod action;
 mod digits;
-mod event_line;
+pub mod events;
+pub mod lines;
 mod text;
 mod write;
 
 pub use action::Action;
+pub use digits::digits_of;
+pub use events::{EventLine, event_line};
+pub use lines::{LineRest, NextLine};
 pub use write::write_action;
