@@ -1,0 +1,62 @@
+//! What the block holds.
+use dc_bucket::{bucket_of, hash_of, hsize_of};
+use dc_ring::{ArenaStore, Marks, Store};
+use std::process::Abort;
+use std::test::Fail;
+
+/// The link at a place.
+fn link(image: &[u8], at: usize) -> Option<u32> {
+    let link: [u8; 4] = image.get(at..)?.get(..4)?.try_into().ok()?;
+    Some(u32::from_le_bytes(link))
+}
+
+#[test]
+fn heads_and_buckets(rt: HostRuntime) {
+    for (size, heads) in [
+        (100, 4),
+        (1000, 32),
+        (3000, 128),
+        (1000000, 32768),
+        (1000000000, 33554432),
+    ] {
+        assert_eq!(rt; hsize_of(size), heads, "at {size}");
+    }
+    for i in 0..=255u8 {
+        assert_eq!(rt; bucket_of(128, &[i, i]), 20, "at {i}");
+    }
+    assert_eq!(rt; bucket_of(32, &[0, 1, 0]), 16);
+    assert_eq!(rt; hash_of(b""), 5381);
+    // 33 * (33 * 5381 xor 97) xor 98
+    assert_eq!(rt; hash_of(b"ab"), 5860902);
+}
+
+/// The places, links and marks after each put.
+#[test]
+fn marks_and_links(rt: HostRuntime) -> Result<(), Fail> {
+    let mut store = ArenaStore::new(rt.alloc(), 100)?;
+    let body = [7u8; 75];
+    let marks = |writer, oldest, unused| Marks {
+        writer,
+        oldest,
+        unused,
+    };
+    assert!(rt; store.marks() == marks(4, 100, 100));
+    store.put(b"k1", &body[..26], 100, 0);
+    store.put(b"k2", &body[..26], 100, 0);
+    assert!(rt; store.marks() == marks(100, 100, 100));
+    assert_eq!(rt; link(store.image(), 0), Some(52));
+    assert_eq!(rt; link(store.image(), 52), Some(4));
+    assert_eq!(rt; link(store.image(), 4), Some(52));
+    store.put(b"k3", &body[..26], 100, 0);
+    assert!(rt; store.marks() == marks(52, 52, 100));
+    assert_eq!(rt; link(store.image(), 0), Some(4));
+    assert_eq!(rt; link(store.image(), 4), Some(52));
+    assert_eq!(rt; link(store.image(), 52), Some(4));
+    store.put(b"k4", &body[..74], 100, 0);
+    assert!(rt; store.marks() == marks(100, 100, 100));
+    store.put(b"k5", &body[..75], 100, 0);
+    assert!(rt; store.marks() == marks(4, 100, 100));
+    assert_eq!(rt; link(store.image(), 0), Some(0));
+    assert_eq!(rt; store.image().len(), 100);
+    Ok(())
+}
