@@ -4,3 +4,4 @@ pub mod Passing
 pub mod Feeds
 pub mod Filling
 pub mod Searching
+pub mod Decoding

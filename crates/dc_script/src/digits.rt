@@ -52,3 +52,14 @@ pub fn digits_of(word: &[u8]) -> Option<&[u8]>
     }
     if spells_bytes(word) { Some(word) } else { None }
 }
+
+/// Turns digits into the bytes that they spell.
+pub fn decode(digits: &[u8], bytes: &mut [u8])
+    requires digits { AreDigits digits.now }
+    requires len { length digits.now ≡ 2 * length bytes.old }
+    ensures { bytes.new ≡ bytes_spelled digits.now }
+{
+    let Ok(()) = hex::decode_to_slice(digits, bytes) else {
+        unreachable!();
+    };
+}

@@ -9,7 +9,7 @@ mod text;
 mod write;
 
 pub use action::Action;
-pub use digits::digits_of;
+pub use digits::{decode, digits_of};
 pub use events::{EventLine, event_line};
 pub use lines::{LineRest, NextLine};
 pub use write::write_action;
