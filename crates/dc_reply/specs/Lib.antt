@@ -1,0 +1,4 @@
+pub mod Bodies
+pub mod Draft
+pub mod Pages
+pub mod Put
