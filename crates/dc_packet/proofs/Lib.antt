@@ -1,3 +1,4 @@
+pub mod MessageLemmas
 pub mod QueryLemmas
 pub mod RowLemmas
 pub mod WalkLemmas

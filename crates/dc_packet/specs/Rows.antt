@@ -1,5 +1,6 @@
 -- What a table holds of a message.
-use Rattle.std.specs.Prelude.{◌≡◌, ℕ, List, [], map, Some}
+use Rattle.std.specs.Prelude.{◌≡◌, ℕ, List, [], map, Some, unwrap_or}
+use Rattle.dc_model.specs.Name.{Name, root}
 use Rattle.dc_model.specs.Message as model
 use Rattle.dc_packet.specs.declared.record.Section.{Section}
 use Rattle.dc_packet.specs.declared.record.Section.TheVariants.{Answer, Authority, Additional}
@@ -39,3 +40,15 @@ pub record AreRowsOf (p : List ℕ) (t : Rows) : Type 0 where
   pub message : model.Message
   pub reads : model.message_of p ≡ Some message
   pub rows : t ≡ rows_of message
+
+-- The message that a packet is; where it is none, one that says nothing.
+unfoldable pub message_in : List ℕ → model.Message
+message_in p = unwrap_or (model.message_of p) (record { id = 0; flags = 0; question = record { name = root; kind = 0; class = 0 }; records = [] })
+
+-- The owner of a record.
+abbrev pub owner_of : model.Record → Name
+owner_of r = r.owner
+
+-- The data of a record.
+abbrev pub data_of : model.Record → model.Body
+data_of r = r.body

@@ -5,6 +5,7 @@
 
 mod data;
 mod malformed;
+mod message;
 mod name;
 mod number;
 mod part;
@@ -18,6 +19,7 @@ mod ttl;
 
 pub use data::Data;
 pub use malformed::Malformed;
+pub use message::Message;
 pub use name::read_name;
 pub use query::{QueryBytes, write_query};
 pub use record::{Rr, Section};
