@@ -12,5 +12,4 @@ mod wire;
 
 pub use error::NameError;
 pub use name::Name;
-pub use number::octet;
 pub use suffix::Suffix;

@@ -4,11 +4,12 @@ ghost use Rattle.dc_model.specs.Name as model;
 ghost use Rattle.dc_name.specs.Refusal.{refusal_of};
 ghost use Rattle.dc_name.specs.Wire.{IsWire, name_of};
 
-use crate::number::{digits, octet};
-use crate::text::{first_part, without_final_dot};
+use crate::number::digits;
+use crate::text::without_final_dot;
 use crate::wire::{MOST_WIRE, copied, lowercase, push_label, refusal, same_wire, under_wire};
 use crate::{NameError, Suffix};
 use arrayvec::ArrayVec;
+use dc_text::{Parts, octet};
 use std::marker::Model;
 
 /// A domain name (RFC 1034, 3.1): labels of 1 to 63 bytes, with at most 255 bytes in a message.
@@ -51,15 +52,11 @@ impl Name {
             return Ok(Name::root());
         }
         let mut name = Name::root();
-        let mut rest = labels;
-        loop {
-            let (part, others) = first_part(rest);
+        let mut parts = Parts::new(labels, b'.');
+        while let Some(part) = parts.next_part() {
             name.add(part)?;
-            match others {
-                None => return Ok(name),
-                Some(more) => rest = more,
-            }
         }
+        Ok(name)
     }
 
     /// The name under which an address is looked up: `d.c.b.a.in-addr.arpa` of a.b.c.d (RFC 1035, 3.5).
