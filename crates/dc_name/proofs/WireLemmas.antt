@@ -207,3 +207,8 @@ lowered_is bs new h e =
     let b : new ≡ wire (lower (name_of bs)) = e ∙ ap str_to_ascii_lowercase h.bytes ∙ lowered-wire (name_of bs) h.name.labels in
     let is = lower-IsName (name_of bs) h.name in
     (IsWire-of new _ is b, name_of-is new _ is b)
+
+-- going up and lowering may change places
+pub parent-lower : (n : Name) → parent (lower n) ≡ lower (parent n)
+parent-lower [] = refl
+parent-lower (l ∷ ls) = refl

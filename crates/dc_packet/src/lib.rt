@@ -15,13 +15,17 @@ mod record;
 mod request;
 mod rows;
 mod table;
+#[cfg(test)]
+mod tests;
 mod ttl;
 
 pub use data::Data;
 pub use malformed::Malformed;
 pub use message::Message;
 pub use name::read_name;
+pub use number::{u16_at, u32_at};
 pub use query::{QueryBytes, write_query};
+pub use question::{Question, question_of};
 pub use record::{Rr, Section};
 pub use request::{Request, read_request};
 pub use table::Table;

@@ -5,7 +5,7 @@ ghost use Rattle.dc_model.specs.Message as model;
 use byteorder::{BigEndian, ByteOrder};
 
 /// The number of the two bytes at a place.
-pub(crate) fn u16_at(packet: &[u8], at: usize) -> u16
+pub fn u16_at(packet: &[u8], at: usize) -> u16
     requires { at + 2 ≤ length packet.now }
     ensures { result ≡ model.u16_at packet.now at }
 {
@@ -13,7 +13,7 @@ pub(crate) fn u16_at(packet: &[u8], at: usize) -> u16
 }
 
 /// The number of the four bytes at a place.
-pub(crate) fn u32_at(packet: &[u8], at: usize) -> u32
+pub fn u32_at(packet: &[u8], at: usize) -> u32
     requires { at + 4 ≤ length packet.now }
     ensures { result ≡ model.u32_at packet.now at }
 {

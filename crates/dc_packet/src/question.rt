@@ -13,16 +13,20 @@ pub(crate) const HEADER: usize = 12;
 
 /// What a message asks, and the place behind it.
 #[derive(Debug, Drop)]
-pub(crate) struct Question {
-    pub(crate) name: Name,
-    pub(crate) kind: u16,
-    pub(crate) class: u16,
-    pub(crate) after: usize,
+pub struct Question {
+    /// The name asked.
+    pub name: Name,
+    /// The type asked.
+    pub kind: u16,
+    /// The class asked.
+    pub class: u16,
+    /// The place behind the question.
+    pub after: usize,
 }
 
 /// The one question of a packet. `None` where the packet has no whole header, where its count of questions isn't 1, or where
 /// the question can't be read.
-pub(crate) fn question_of(packet: &[u8]) -> Option<Question>
+pub fn question_of(packet: &[u8]) -> Option<Question>
     requires { length packet.now ≤ 65535 }
     ensures question { option_map question_read result ≡ model.question_of packet.now }
     ensures name { IfSome result (λ q. IsName q.name) }
