@@ -23,6 +23,18 @@ length-filled xs body kind ttl len =
     ∙ ap (λ v. (xs ++ take 8 (ten kind ttl 0)) ++ (u16 len ++ v)) behind
     ∙ append_assoc xs (take 8 (ten kind ttl 0)) (u16 len ++ body)
 
+-- The last step: the length of the data is written over its place.
+answer-end : (front owner : List ℕ) (body after : Written) (kind ttl at len : ℕ) → at ≡ length (front ++ owner) + 8 → len ≡ length body.bytes
+    → after ≡ record { bytes = take at (((front ++ owner) ++ ten kind ttl 0) ++ body.bytes) ++ (u16 len ++ drop (at + 2) (((front ++ owner) ++ ten kind ttl 0) ++ body.bytes)); table = body.table }
+    → after ≡ record { bytes = front ++ ((owner ++ ten kind ttl (length body.bytes)) ++ body.bytes); table = body.table }
+answer-end front owner body after kind ttl at len e f g =
+    g ∙ ap (λ (bs : List ℕ). record { bytes = bs; table = body.table })
+    (ap (λ (i : ℕ). take i (((front ++ owner) ++ ten kind ttl 0) ++ body.bytes) ++ (u16 len ++ drop (i + 2) (((front ++ owner) ++ ten kind ttl 0) ++ body.bytes))) e
+    ∙ length-filled (front ++ owner) body.bytes kind ttl len
+    ∙ ap (λ (j : ℕ). (front ++ owner) ++ (ten kind ttl j ++ body.bytes)) f
+    ∙ append_assoc front owner (ten kind ttl (length body.bytes) ++ body.bytes)
+    ∙ ap (λ v. front ++ v) (sym (append_assoc owner (ten kind ttl (length body.bytes)) body.bytes)))
+
 -- The steps of an answer: its owner, ten bytes, its data, and the length of the data.
 pub answer-steps : (old : Written) (a : Answer) (named filled bodied after : Written) (at len : ℕ)
     → named ≡ with_more old (name_written a.owner) → at ≡ length named.bytes + 8
@@ -47,10 +59,5 @@ answer-steps old a named filled bodied after at len e1 e2 e3 e4 e5 e6 =
     let at_is : at ≡ length xs + 8 = e2 ∙ ap (λ (w : Written). length w.bytes + 8) e1 in
     let size : length bodied.bytes ≡ length ((xs ++ empty) ++ body.bytes) = ap (λ (w : Written). length w.bytes) bodied_is in
     let len_is : len ≡ length body.bytes = omega arith in
-    e6 ∙ ap (λ (w : Written). record { bytes = take at w.bytes ++ (u16 len ++ drop (at + 2) w.bytes); table = w.table }) bodied_is
-    ∙ ap (λ (i : ℕ). record { bytes = take i ((xs ++ empty) ++ body.bytes) ++ (u16 len ++ drop (i + 2) ((xs ++ empty) ++ body.bytes)); table = body.table }) at_is
-    ∙ ap (λ (bs : List ℕ). record { bytes = bs; table = body.table }) (length-filled xs body.bytes a.kind a.ttl len)
-    ∙ ap (λ (j : ℕ). record { bytes = xs ++ (ten a.kind a.ttl j ++ body.bytes); table = body.table }) len_is
-    ∙ ap (λ (bs : List ℕ). record { bytes = bs; table = body.table })
-    (append_assoc old.bytes owner.bytes (ten a.kind a.ttl (length body.bytes) ++ body.bytes)
-    ∙ ap (λ v. old.bytes ++ v) (sym (append_assoc owner.bytes (ten a.kind a.ttl (length body.bytes)) body.bytes)))
+    answer-end old.bytes owner.bytes body after a.kind a.ttl at len at_is len_is
+    (e6 ∙ ap (λ (w : Written). record { bytes = take at w.bytes ++ (u16 len ++ drop (at + 2) w.bytes); table = w.table }) bodied_is)

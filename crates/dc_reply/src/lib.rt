@@ -2,6 +2,7 @@
 #![tactic(auto)]
 
 mod body;
+pub mod laws;
 mod message;
 mod reply;
 mod suffixes;
@@ -9,3 +10,6 @@ mod writer;
 
 pub use body::Body;
 pub use reply::Reply;
+
+#[cfg(test)]
+mod tests;
