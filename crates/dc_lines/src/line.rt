@@ -36,6 +36,17 @@ impl Model for Line {
     ghost invariant = { λ a. a.len ≤ 4096 };
 }
 
+impl Default for Line {
+    ghost use Rattle.std.specs.Prelude.{◌≡◌, []};
+
+    ghost is_default = { λ line. line ≡ [] };
+
+    /// The empty line.
+    fn default() -> Line {
+        Line::new()
+    }
+}
+
 impl Line {
     /// The empty line.
     pub fn new() -> Line

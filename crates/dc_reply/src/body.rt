@@ -6,7 +6,7 @@ ghost use Rattle.dc_reply.specs.Put.{plain_length};
 use dc_name::Name;
 
 /// The data of a record, for a reply (RFC 1035, 3.3). Names in it may be written as pointers.
-#[derive(Clone, Copy)]
+#[derive(Clone, Copy, Debug)]
 pub enum Body<'a> {
     /// Bytes as they are.
     Bytes(&'a [u8]),
