@@ -1,5 +1,7 @@
 //! Messages as the standard and the program's documents give them.
 
+ghost use Rattle.std.specs.Prelude.{◌≤◌};
+
 use crate::{
     Data, Malformed, Message, Rr, Section, Table, kept_ttl, read_name, read_request, write_query,
 };
@@ -179,6 +181,8 @@ fn reads_messages(rt: HostRuntime) -> Result<(), Fail> {
     assert_eq!(rt; table.rr(2).section, Section::Authority);
     assert_eq!(rt; table.rr(3).section, Section::Additional);
     let message = Message::new(&ANSWER, &table);
+    let count = message.count();
+    assert_eq!(rt; count, 4);
     assert!(rt; message.owner(1).same(&Name::from_dotted(b"b.a")?));
     let a = Name::from_dotted(b"a")?;
     match (
