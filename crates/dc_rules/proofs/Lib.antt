@@ -1,4 +1,3 @@
-pub mod Tables
 pub mod Nearest
 pub mod Permissions
 pub mod Filling

@@ -5,6 +5,8 @@ mod config;
 mod error;
 mod permit;
 mod servers;
+#[cfg(test)]
+mod tests;
 mod zones;
 
 pub use config::Config;
