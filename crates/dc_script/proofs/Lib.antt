@@ -5,3 +5,7 @@ pub mod Feeds
 pub mod Filling
 pub mod Searching
 pub mod Decoding
+pub mod ReadLemmas
+pub mod BreakLemmas
+pub mod StateLemmas
+pub mod TellLemmas

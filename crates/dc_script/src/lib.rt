@@ -5,11 +5,15 @@ pub mod action;
 mod digits;
 pub mod events;
 pub mod lines;
+mod reader;
 mod text;
+pub mod world;
 mod write;
+mod writer;
 
 pub use action::Action;
 pub use digits::{decode, digits_of};
 pub use events::{EventLine, event_line};
 pub use lines::{LineRest, NextLine};
+pub use world::ScriptWorld;
 pub use write::write_action;

@@ -1,5 +1,5 @@
 //! Lines, taken from a source in whatever pieces it gives.
-ghost use Rattle.std.specs.Prelude.{◌≡◌, ◌≢◌, ℕ, List, ◌+◌, ◌-◌, ◌<◌, ◌≤◌, [], ◌∷◌, ◌++◌, length, take, drop, slice_index, IfOk, MatchOption, Some, None, ◌⊎◌};
+ghost use Rattle.std.specs.Prelude.{◌≡◌, ◌≢◌, ℕ, List, ◌+◌, ◌-◌, ◌<◌, ◌≤◌, [], ◌∷◌, ◌++◌, length, take, drop, slice_index, IfOk, MatchOption, MatchBool, Some, None, ◌⊎◌};
 ghost use Rattle.std.specs.Io.KnownBytes.{IsAtEnd};
 ghost use Rattle.dc_event.specs.Answers.{taken_by};
 ghost use Rattle.dc_event.specs.Causes.{Rose};
@@ -78,6 +78,13 @@ impl LineRest {
         ensures { result.now ≡ self.now.line }
     {
         &self.buffer[self.line..self.line + self.line_len]
+    }
+
+    /// Whether all bytes are read.
+    pub fn is_empty(&self) -> bool
+        ensures { MatchBool result (length self.now.rest ≡ 0) (0 < length self.now.rest) }
+    {
+        self.rest_len() == 0
     }
 
     /// How many bytes aren't read yet.

@@ -1,0 +1,166 @@
+-- A recorded world: what it has read and written, and the relations between two of its states.
+use Rattle.std.specs.Prelude.{◌≡◌, ℕ, ◌+◌, ◌^◌, ◌<◌, Bool, true, false, List, [], ◌∷◌, ◌++◌, ◌⊎◌, length, take, refl}
+use Rattle.std.proofs.Common.{sym, ◌∙◌, ap, ◌≤◌, arith, subst}
+use Rattle.std.specs.declared.option.Option.{Option}
+use Rattle.std.specs.declared.option.Option.TheVariants.{None, Some}
+use Rattle.std.specs.Io.KnownBytes.{IsAtEnd}
+use Rattle.dc_model.specs.Event.{Event, IsEvent, Action}
+use Rattle.dc_event.specs.declared.answers.Heard.{Heard as Answer}
+use Rattle.dc_event.specs.declared.answers.Heard.TheVariants as answer
+use Rattle.dc_event.specs.Causes.{counted}
+use Rattle.dc_script.specs.Script.{bad_at, most_line}
+use Rattle.dc_script.specs.Lines.{IsOneLine}
+use Rattle.dc_script.specs.declared.lines.NextLine.{NextLine}
+use Rattle.dc_script.specs.declared.lines.NextLine.TheVariants.{Found, TooLong, Ended, Failed}
+use Rattle.dc_script.specs.Text.{action_text, text_of}
+use Rattle.dc_script.specs.Read.{ReadOff, ReadOff-none, ReadOff-both, says}
+use Rattle.dc_script.specs.Written.{Written, Written-none, Done-both, text_of-one}
+
+-- A recorded world over a source and a sink: the source, the text taken from it that isn't handed out, how many lines were handed out,
+-- the source's count of faults when the world was made, and whether a read has failed; the sink, its count when the world was made, and
+-- whether a write has failed; the world's own count, its last answer, and the addresses that it keeps.
+pub record Recorded (S K : Type 0) : Type 0 where
+  pub source : S
+  pub unread : List ℕ
+  pub lines : ℕ
+  pub source_start : ℕ
+  pub read_failed : Bool
+  pub sink : K
+  pub sink_start : ℕ
+  pub write_failed : Bool
+  pub faults : ℕ
+  pub last : Option Answer
+  pub kept : Option (List ℕ × List ℕ)
+
+-- These actions were written, and nothing else changed.
+pub record Acted {S K : Type 0} (gained : K → List ℕ → K → Type 0) (old : Recorded S K) (actions : List Action) (new : Recorded S K) : Type 0 where
+  pub written : Written gained old.write_failed new.write_failed old.sink (text_of actions) new.sink
+  pub same : new ≡ record old { sink = new.sink; write_failed = new.write_failed }
+
+-- These events were handed out.
+pub record HandedOut {S K : Type 0} (took : S → List ℕ → S → Type 0) (old : Recorded S K) (events : List Event) (new : Recorded S K) : Type 0 where
+  pub heard : ReadOff took old.source old.unread old.lines events new.source new.unread new.lines
+  pub same_start : new.source_start ≡ old.source_start
+
+-- These actions were written.
+pub record Wrote {S K : Type 0} (gained : K → List ℕ → K → Type 0) (old : Recorded S K) (actions : List Action) (new : Recorded S K) : Type 0 where
+  pub written : Written gained old.write_failed new.write_failed old.sink (text_of actions) new.sink
+  pub same_start : new.sink_start ≡ old.sink_start
+
+-- The script ends here, with its line `end` and nothing behind it.
+abbrev pub IsOver : List ℕ → Type 0
+IsOver text = (n : ℕ) → says n text ≡ record { events = []; bad = None }
+
+-- After so many lines, line k is outside the grammar: whatever follows, or since the source is at its end.
+pub record Breaks (left : Option (List ℕ)) (text : List ℕ) (lines k : ℕ) : Type 0 where
+  pub ahead : ℕ
+  pub number : lines + 1 + ahead < 2 ^ 64 → k ≡ lines + 1 + ahead
+  pub bad : ((tail : List ℕ) (n : ℕ) → says n (text ++ tail) ≡ bad_at (n + ahead)) ⊎ (IsAtEnd left × ((n : ℕ) → says n text ≡ bad_at (n + ahead)))
+
+-- What stands of a line that was looked for: it was found; or it is too long; or there is no whole line, and the source is at its end.
+abbrev pub Peeked : NextLine → (found : Bool) → (rest : List ℕ) → (left : Option (List ℕ)) → Type 0
+Peeked Found found rest left = found ≡ true
+Peeked TooLong found rest left = (found ≡ false) × (most_line < length rest) × IsOneLine (take (most_line + 1) rest)
+Peeked Ended found rest left = (found ≡ false) × IsOneLine rest × IsAtEnd left
+Peeked Failed found rest left = Unit {0}
+
+-- What an answer without an event says.
+abbrev pub NoEvent : Answer → (over : Type 0) → (breaks : ℕ → Type 0) → (failed : Type 0) → Type 0
+NoEvent answer.Event over breaks failed = ⊥
+NoEvent answer.End over breaks failed = over
+NoEvent answer.Failed over breaks failed = failed
+NoEvent (answer.Bad line) over breaks failed = breaks line
+
+-- What an answer says.
+abbrev pub Answered : Answer → Event → (over : Type 0) → (breaks : ℕ → Type 0) → (failed : Type 0) → Type 0
+Answered answer.Event e over breaks failed = IsEvent e
+Answered answer.End e over breaks failed = over
+Answered answer.Failed e over breaks failed = failed
+Answered (answer.Bad line) e over breaks failed = breaks line
+
+-- What the world's count is behind an answer.
+abbrev pub faults_behind : Answer → ℕ → ℕ
+faults_behind answer.Event n = n
+faults_behind answer.End n = n
+faults_behind answer.Failed n = counted n
+faults_behind (answer.Bad line) n = n
+
+-- Laws
+
+module _ {S K : Type 0} (gained : K → List ℕ → K → Type 0) (none : (a : K) → gained a [] a)
+    (both : (a b c : K) (xs ys : List ℕ) → gained a xs b → gained b ys c → gained a (xs ++ ys) c) where
+  pub Acted-none : (a : Recorded S K) → Acted gained a [] a
+  unfolding text_of
+  Acted-none a = record { written = Written-none gained none both a.write_failed a.sink; same = refl }
+
+  pub Acted-both : (a b c : Recorded S K) (xs ys : List Action) → Acted gained a xs b → Acted gained b ys c → Acted gained a (xs ++ ys) c
+  Acted-both a b c xs ys p q = record {
+    written = Done-both gained none both a.write_failed b.write_failed c.write_failed a.sink b.sink c.sink xs ys p.written q.written;
+    same = q.same ∙ ap {A = Recorded S K} (λ w. record w { sink = c.sink; write_failed = c.write_failed }) p.same;
+  }
+
+  pub Wrote-none : (a : Recorded S K) → Wrote gained a [] a
+  unfolding text_of
+  Wrote-none a = record { written = Written-none gained none both a.write_failed a.sink; same_start = refl }
+
+  pub Wrote-both : (a b c : Recorded S K) (xs ys : List Action) → Wrote gained a xs b → Wrote gained b ys c → Wrote gained a (xs ++ ys) c
+  Wrote-both a b c xs ys p q = record {
+    written = Done-both gained none both a.write_failed b.write_failed c.write_failed a.sink b.sink c.sink xs ys p.written q.written;
+    same_start = q.same_start ∙ p.same_start;
+  }
+
+-- One action, which may set nothing but the sink and whether a write has failed.
+pub Acted-one : {S K : Type 0} (gained : K → List ℕ → K → Type 0) (a : Recorded S K) (sink : K) (start : ℕ) (failed : Bool) (x : Action)
+    → Written gained a.write_failed failed a.sink (action_text x) sink → start ≡ a.sink_start
+    → Acted gained a (x ∷ []) (record a { sink = sink; sink_start = start; write_failed = failed })
+Acted-one {S} {K} gained a sink start failed x w e =
+    record { written = rw text_of-one w; same = ap {A = ℕ} (λ n. record a { sink = sink; sink_start = n; write_failed = failed }) e }
+
+module _ {S K : Type 0} (gained : K → List ℕ → K → Type 0) (none : (a : K) → gained a [] a)
+    (both : (a b c : K) (xs ys : List ℕ) → gained a xs b → gained b ys c → gained a (xs ++ ys) c) where
+  -- Where the sink is the same, nothing was written.
+  pub Wrote-same : (a : Recorded S K) (source : S) (unread : List ℕ) (lines start : ℕ) (read_failed : Bool) (faults : ℕ) (last : Option Answer) (kept : Option (List ℕ × List ℕ))
+      → Wrote gained a [] (record a { source = source; unread = unread; lines = lines; source_start = start; read_failed = read_failed; faults = faults; last = last; kept = kept })
+  unfolding text_of
+  Wrote-same a source unread lines start read_failed faults last kept = record { written = Written-none gained none both a.write_failed a.sink; same_start = refl }
+
+  pub Wrote-next : (old mid new : Recorded S K) (faults : ℕ) (last : Option Answer)
+      → mid ≡ record old { source = mid.source; unread = mid.unread; lines = mid.lines; read_failed = mid.read_failed }
+      → new ≡ record mid { faults = faults; last = last } → Wrote gained old [] new
+  Wrote-next old mid new faults last e f =
+      let P : Recorded S K → Type 0 = λ w. Wrote gained old [] w in
+      let Q : Recorded S K → Type 0 = λ w. Wrote gained old [] (record w { faults = faults; last = last }) in
+      subst P (sym f) (subst Q (sym e) (Wrote-same old mid.source mid.unread mid.lines old.source_start mid.read_failed faults last old.kept))
+
+-- What a call of `next` changes.
+pub next_same : {S K : Type 0} (old mid new : Recorded S K) (a : Answer)
+    → mid ≡ record old { source = mid.source; unread = mid.unread; lines = mid.lines; read_failed = mid.read_failed }
+    → new ≡ record mid { faults = faults_behind a mid.faults; last = Some a }
+    → new ≡ record old { source = new.source; unread = new.unread; lines = new.lines; read_failed = new.read_failed; faults = faults_behind a old.faults; last = Some a }
+next_same {S} {K} old mid new a e f =
+    let P : Recorded S K → Type 0 = λ w. w ≡ record old { source = w.source; unread = w.unread; lines = w.lines; read_failed = w.read_failed; faults = faults_behind a old.faults; last = Some a } in
+    subst P (sym f) (ap {A = Recorded S K} (λ w. record w { faults = faults_behind a w.faults; last = Some a }) e)
+
+-- Where a list was acted, it was written.
+pub Acted-wrote : {S K : Type 0} (gained : K → List ℕ → K → Type 0) (a b : Recorded S K) (xs : List Action) → Acted gained a xs b → Wrote gained a xs b
+Acted-wrote gained a b xs p = record { written = p.written; same_start = ap (λ w. w.sink_start) p.same }
+
+pub Acted-faults : {S K : Type 0} (gained : K → List ℕ → K → Type 0) (a b : Recorded S K) (xs : List Action) → Acted gained a xs b → a.faults ≤ b.faults
+Acted-faults gained a b xs p = let same : b.faults ≡ a.faults = ap (λ w. w.faults) p.same in omega (arith, same)
+
+module _ {S K : Type 0} (took : S → List ℕ → S → Type 0) (none : (a : S) → took a [] a)
+    (both : (a b c : S) (xs ys : List ℕ) → took a xs b → took b ys c → took a (xs ++ ys) c) where
+  pub HandedOut-none : (a : Recorded S K) → HandedOut took a [] a
+  HandedOut-none a = record { heard = ReadOff-none took none both a.source a.unread a.lines; same_start = refl }
+
+  pub HandedOut-both : (a b c : Recorded S K) (xs ys : List Event) → HandedOut took a xs b → HandedOut took b ys c → HandedOut took a (xs ++ ys) c
+  HandedOut-both a b c xs ys p q = record {
+    heard = ReadOff-both took none both a.source b.source c.source a.unread b.unread c.unread a.lines b.lines c.lines xs ys p.heard q.heard;
+    same_start = q.same_start ∙ p.same_start;
+  }
+
+  -- Where a list was acted, nothing was handed out.
+  pub Acted-heard : (gained : K → List ℕ → K → Type 0) (a b : Recorded S K) (xs : List Action) → Acted gained a xs b → HandedOut took a [] b
+  Acted-heard gained a b xs p =
+      let P : Recorded S K → Type 0 = λ w. HandedOut took a [] w in
+      subst P (sym p.same) (record { heard = ReadOff-none took none both a.source a.unread a.lines; same_start = refl })

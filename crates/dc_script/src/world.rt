@@ -1,0 +1,278 @@
+//! The recorded world: events from a script, actions to a text.
+ghost use Rattle.std.specs.Prelude.{◌≡◌, ◌+◌, ◌≤◌, ◌<◌, ◌^◌, ℕ, Bool, true, false, List, [], ◌∷◌, ◌++◌, ◌⊎◌, length, IfOk, Some, None, refl};
+ghost use Rattle.std.specs.declared.option.Option.{Option};
+ghost use Rattle.std.specs.Io.KnownBytes.{IsAtEnd};
+ghost use Rattle.std.proofs.Common.{ap};
+ghost use Rattle.dc_model.specs.Event.{Action as ModelAction, Event};
+ghost use Rattle.dc_event.specs.Answers.{heard_by, Warrants};
+ghost use Rattle.dc_event.specs.Causes.{Rose};
+ghost use Rattle.dc_script.specs.View.{action_of};
+ghost use Rattle.dc_script.specs.World.{Recorded, Acted, HandedOut, Wrote, IsOver, Breaks, Acted-none, Acted-both, Wrote-none, Wrote-both, Acted-wrote, Acted-faults, HandedOut-none, HandedOut-both, Acted-heard, Answered, faults_behind};
+
+use crate::action::Action;
+use crate::lines::LineRest;
+use crate::reader::Reader;
+use crate::writer::Writer;
+use dc_event::{Effects, Heard, Inbox, Sink, Source, World, WorldFailed};
+use std::alloc::{AllocError, Global};
+use std::marker::Model;
+
+/// A world over a source and a sink. It reads the events of a script line by line, and writes the text of each action at once.
+///
+/// After a write that failed nothing more is written, and every later call of `next` fails. Where a read failed, that call of `next` and
+/// every later one fail.
+#[derive(Drop)]
+pub struct ScriptWorld<S: Source, K: Sink> {
+    reader: Reader<S>,
+    writer: Writer<K>,
+    faults: u64,
+    last: Option<Heard>,
+    kept: Option<([u8; 4], [u8; 4])>,
+}
+
+impl<S: Source, K: Sink> Model for ScriptWorld<S, K> {
+    ghost use Rattle.dc_script.specs.Read.{unread};
+    ghost use Rattle.dc_script.specs.View.{action_of};
+    ghost use Rattle.dc_script.specs.World.{Recorded};
+
+    ghost Value = { Recorded S K };
+
+    ghost view = { λ a. record {
+      source = a.reader.source;
+      unread = unread a.reader.ended a.reader.found a.reader.rest.line a.reader.rest.rest;
+      lines = a.reader.lines;
+      source_start = a.reader.start;
+      read_failed = a.reader.failed;
+      sink = a.writer.sink;
+      sink_start = a.writer.start;
+      write_failed = a.writer.failed;
+      faults = a.faults;
+      last = a.last;
+      kept = a.kept;
+    } };
+}
+
+impl<S: Source, K: Sink> ScriptWorld<S, K> {
+    /// A world of the script that goes on with these bytes and then the source's, behind so many lines. It takes all memory that it needs.
+    pub fn new(
+        alloc: Global,
+        rest: LineRest,
+        lines: u64,
+        source: S,
+        sink: K,
+    ) -> Result<ScriptWorld<S, K>, AllocError>
+    where
+        S: Drop,
+        K: Drop,
+        ensures { IfOk result (λ world. world ≡ record {
+          source = source;
+          unread = rest.rest;
+          lines = lines;
+          source_start = S.faults source;
+          read_failed = false;
+          sink = sink;
+          sink_start = K.faults sink;
+          write_failed = false;
+          faults = 0;
+          last = None;
+          kept = None;
+        }) }
+    {
+        let reader = Reader::new(alloc, rest, lines, source)?;
+        Ok(ScriptWorld {
+            reader,
+            writer: Writer::new(sink),
+            faults: 0,
+            last: None,
+            kept: None,
+        })
+    }
+
+    /// How often the source has failed. It failed since the world was made where a read has failed.
+    pub fn source_faults(&self) -> u64
+        ensures value { result ≡ S.faults self.now.source }
+        ensures later { self.now.source_start ≤ result }
+        ensures cause { self.now.read_failed ≡ true → Rose self.now.source_start result }
+    {
+        self.reader.source.faults()
+    }
+
+    /// How often the sink has failed. It failed since the world was made where a write has failed.
+    pub fn sink_faults(&self) -> u64
+        ensures value { result ≡ K.faults self.now.sink }
+        ensures later { self.now.sink_start ≤ result }
+        ensures cause { self.now.write_failed ≡ true → Rose self.now.sink_start result }
+    {
+        self.writer.sink.faults()
+    }
+
+    /// The sink.
+    pub fn sink(&self) -> &K
+        ensures { result.now ≡ self.now.sink }
+    {
+        &self.writer.sink
+    }
+
+    /// The next event, where neither a read nor a write has failed.
+    fn hear(&mut self, inbox: &mut Inbox) -> Heard
+        ensures heard { HandedOut S.took self.old (heard_by result inbox.new) self.new }
+        ensures same { self.new ≡ record self.old { source = self.new.source; unread = self.new.unread; lines = self.new.lines; read_failed = self.new.read_failed } }
+        ensures answer { Answered result inbox.new (IsAtEnd (S.left self.new.source) × IsOver self.new.unread × (self.new.write_failed ≡ false))
+            (λ number. Breaks (S.left self.new.source) self.new.unread self.new.lines number × (self.new.write_failed ≡ false))
+            (Rose self.new.source_start (S.faults self.new.source) ⊎ Rose self.new.sink_start (K.faults self.new.sink)) }
+        ensures read { self.old.read_failed ≡ true → result ≡ Heard.Failed }
+        ensures write { self.old.write_failed ≡ true → result ≡ Heard.Failed }
+    {
+        if self.writer.failed {
+            return Heard::Failed;
+        }
+        if self.reader.failed {
+            return Heard::Failed;
+        }
+        self.reader.hear(inbox)
+    }
+
+    /// Writes an action.
+    fn act(&mut self, action: Action<'_>)
+        ensures { Acted K.gained self.old (action_of action.entry ∷ []) self.new }
+    {
+        self.writer.write(action);
+    }
+
+    /// Keeps an answer, and counts it where it is a fault.
+    fn note(&mut self, answer: Heard)
+        ensures later { self.old.faults ≤ self.new.faults }
+        ensures note { self.new ≡ record self.old { faults = faults_behind answer self.old.faults; last = Some answer } }
+    {
+        if let Heard::Failed = answer {
+            self.faults = self.faults.saturating_add(1);
+        }
+        self.last = Some(answer);
+    }
+}
+
+impl<S: Source, K: Sink> Effects for ScriptWorld<S, K> {
+    ghost acted = { Acted K.gained };
+
+    fn reply(&mut self, addr: [u8; 4], port: u16, bytes: &[u8]) {
+        self.act(Action::Reply { addr, port, bytes });
+    }
+
+    fn conn_reply(&mut self, conn: u64, bytes: &[u8]) {
+        self.act(Action::ConnReply { conn, bytes });
+    }
+
+    fn conn_close(&mut self, conn: u64) {
+        self.act(Action::ConnClose { conn });
+    }
+
+    fn udp(&mut self, link: u64, local_port: u16, server: [u8; 4], query: &[u8]) {
+        self.act(Action::Udp {
+            link,
+            local_port,
+            server,
+            query,
+        });
+    }
+
+    fn tcp(&mut self, link: u64, local_port: u16, server: [u8; 4]) {
+        self.act(Action::Tcp {
+            link,
+            local_port,
+            server,
+        });
+    }
+
+    fn link_write(&mut self, link: u64, bytes: &[u8]) {
+        self.act(Action::LinkWrite { link, bytes });
+    }
+
+    fn link_close(&mut self, link: u64) {
+        self.act(Action::LinkClose { link });
+    }
+
+    fn line(&mut self, text: &[u8]) {
+        self.act(Action::Line { text });
+    }
+
+    ghost acted_none = { Acted-none K.gained K.gained_none K.gained_both };
+
+    ghost acted_both = { Acted-both K.gained K.gained_none K.gained_both };
+}
+
+impl<S: Source, K: Sink> World for ScriptWorld<S, K> {
+    ghost heard = { HandedOut S.took };
+
+    ghost wakes = { λ a xs b. Unit {0} };
+
+    ghost done = { Wrote K.gained };
+
+    ghost faults = { λ w. w.faults };
+
+    ghost last = { λ w. w.last };
+
+    ghost kept = { λ w. w.kept };
+
+    ghost used_up = { λ w. IsAtEnd (S.left w.source) × IsOver w.unread × (w.write_failed ≡ false) };
+
+    ghost broken = { λ w number. Breaks (S.left w.source) w.unread w.lines number × (w.write_failed ≡ false) };
+
+    fn listen(&mut self, addr: [u8; 4], send_from: [u8; 4]) -> Result<(), WorldFailed> {
+        self.kept = Some((addr, send_from));
+        Ok(())
+    }
+
+    fn next(&mut self, _wake: Option<u64>, inbox: &mut Inbox) -> Heard
+        ensures heard { HandedOut S.took self.old (heard_by result inbox.new) self.new }
+        ensures done { Wrote K.gained self.old [] self.new }
+        ensures last { self.new.last ≡ Some result }
+        ensures kept { self.new.kept ≡ self.old.kept }
+        ensures later { self.old.faults ≤ self.new.faults }
+        ensures warrant { Warrants result inbox.new (IsAtEnd (S.left self.new.source) × IsOver self.new.unread × (self.new.write_failed ≡ false))
+            (λ number. Breaks (S.left self.new.source) self.new.unread self.new.lines number × (self.new.write_failed ≡ false))
+            self.old.faults self.new.faults }
+        ensures same { self.new ≡ record self.old {
+          source = self.new.source;
+          unread = self.new.unread;
+          lines = self.new.lines;
+          read_failed = self.new.read_failed;
+          faults = faults_behind result self.old.faults;
+          last = Some result;
+        } }
+        ensures cause { result ≡ Heard.Failed → Rose self.new.source_start (S.faults self.new.source) ⊎ Rose self.new.sink_start (K.faults self.new.sink) }
+        ensures read { self.old.read_failed ≡ true → result ≡ Heard.Failed }
+        ensures write { self.old.write_failed ≡ true → result ≡ Heard.Failed }
+    {
+        let answer = self.hear(inbox);
+        self.note(answer);
+        answer
+    }
+
+    fn faults(&self) -> u64 {
+        self.faults
+    }
+
+    ghost heard_none = { HandedOut-none S.took S.took_none S.took_both };
+
+    ghost heard_both = { HandedOut-both S.took S.took_none S.took_both };
+
+    ghost wakes_none = { λ a. tt };
+
+    ghost wakes_both = { λ a b c xs ys p q. tt };
+
+    ghost done_none = { Wrote-none K.gained K.gained_none K.gained_both };
+
+    ghost done_both = { Wrote-both K.gained K.gained_none K.gained_both };
+
+    ghost acted_done = { Acted-wrote K.gained };
+
+    ghost acted_heard = { Acted-heard S.took S.took_none S.took_both K.gained };
+
+    ghost acted_wakes = { λ a b xs p. tt };
+
+    ghost acted_faults = { Acted-faults K.gained };
+
+    ghost acted_last = { λ a b xs p. ap (λ w. w.last) p.same };
+
+    ghost acted_kept = { λ a b xs p. ap (λ w. w.kept) p.same };
+}

@@ -1,0 +1,50 @@
+//! A sink to which the text of actions is written until a write fails.
+ghost use Rattle.std.specs.Prelude.{◌≡◌, ◌≤◌, Bool, true, false};
+ghost use Rattle.dc_event.specs.Causes.{Rose};
+ghost use Rattle.dc_script.specs.Text.{action_text};
+ghost use Rattle.dc_script.specs.View.{action_of};
+ghost use Rattle.dc_script.specs.Written.{Written};
+
+use crate::{Action, write_action};
+use dc_event::{Put, Sink};
+
+/// Writes actions to a sink, and nothing more after a write that failed.
+#[derive(Drop)]
+pub(crate) struct Writer<K: Sink> {
+    pub(crate) sink: K,
+    pub(crate) start: u64,
+    pub(crate) failed: bool,
+    /// The sink's count hasn't fallen.
+    pub(crate) ghost started: { start ≤ K.faults sink },
+    /// A write fails only where the sink's count rose.
+    pub(crate) ghost caused: { failed ≡ true → Rose start (K.faults sink) },
+}
+
+impl<K: Sink> Writer<K> {
+    /// A writer over a sink.
+    pub(crate) fn new(sink: K) -> Writer<K>
+        ensures sink { result.sink ≡ sink }
+        ensures start { result.start ≡ K.faults sink }
+        ensures failed { result.failed ≡ false }
+    {
+        let start = sink.faults();
+        Writer {
+            sink,
+            start,
+            failed: false,
+        }
+    }
+
+    /// Writes the text of an action, where no write has failed.
+    pub(crate) fn write(&mut self, action: Action<'_>)
+        ensures written { Written K.gained self.old.failed self.new.failed self.old.sink (action_text (action_of action.entry)) self.new.sink }
+        ensures start { self.new.start ≡ self.old.start }
+    {
+        if self.failed {
+            return;
+        }
+        if let Put::Failed = write_action(&mut self.sink, action) {
+            self.failed = true;
+        }
+    }
+}
