@@ -51,7 +51,14 @@ impl Model for Reply {
 
     ghost Value = { Draft };
 
-    ghost view = { λ a. record { begun = a.begun; id = a.id; flags = a.flags; count = a.count; asked = a.asked; written = a.writer.written } };
+    ghost view = { λ a. record {
+      begun = a.begun;
+      id = a.id;
+      flags = a.flags;
+      count = a.count;
+      asked = a.asked;
+      written = a.writer.written;
+    } };
 
     ghost use Rattle.dc_reply.specs.Draft.{IsInside};
 
@@ -76,7 +83,8 @@ impl Reply {
 
     /// Begins a reply without answers to a request, whose id, name, type and class are given.
     pub fn start(&mut self, id: u16, name: &Name, qtype: u16, qclass: u16)
-        ensures reply { self.new ≡ draft_of (model.reply_to (record { id = id; name = name.now; kind = qtype; class = qclass })) }
+        ensures reply { self.new
+            ≡ draft_of (model.reply_to (record { id = id; name = name.now; kind = qtype; class = qclass })) }
         ensures begun { IsTrue self.new.begun }
     {
         self.writer.truncate(0, 0);
@@ -92,8 +100,10 @@ impl Reply {
     /// then as before.
     pub fn rr(&mut self, owner: &Name, kind: u16, ttl: u32, body: Body<'_>) -> bool
         requires { IsTrue self.old.begun }
-        ensures fits { (r : model.Reply) → self.old ≡ draft_of r → result ≡ model.fits (model.with_answer (answer_of owner.now kind ttl body.entry) r) }
-        ensures added { (r : model.Reply) → self.old ≡ draft_of r → result ≡ true → self.new ≡ draft_of (model.with_answer (answer_of owner.now kind ttl body.entry) r) }
+        ensures fits { (r : model.Reply) → self.old ≡ draft_of r
+            → result ≡ model.fits (model.with_answer (answer_of owner.now kind ttl body.entry) r) }
+        ensures added { (r : model.Reply) → self.old ≡ draft_of r → result ≡ true
+            → self.new ≡ draft_of (model.with_answer (answer_of owner.now kind ttl body.entry) r) }
         ensures same { result ≡ false → self.new ≡ self.old }
         ensures begun { IsTrue self.new.begun }
     {
@@ -135,9 +145,15 @@ impl Reply {
         requires { IsTrue self.old.begun }
         ensures bytes { (r : model.Reply) → self.old ≡ draft_of r → result.now ≡ model.udp_bytes r }
         ensures short { length result.now ≤ 512 }
-        ensures reads_back { (r : model.Reply) → self.old ≡ draft_of r → IsReply r → length (model.reply_bytes r) ≤ 512 → IsMessageOf r result.now }
-        ensures cut_reads_back { (r : model.Reply) → self.old ≡ draft_of r → IsReply r → 512 < length (model.reply_bytes r)
-            → message_of result.now ≡ Some (record { id = r.id; flags = r.flags + 512; question = r.question; records = [] }) }
+        ensures reads_back { (r : model.Reply) → self.old ≡ draft_of r → IsReply r
+            → length (model.reply_bytes r) ≤ 512 → IsMessageOf r result.now }
+        ensures cut_reads_back { (r : model.Reply) → self.old ≡ draft_of r → IsReply r
+            → 512 < length (model.reply_bytes r) → message_of result.now ≡ Some (record {
+              id = r.id;
+              flags = r.flags + 512;
+              question = r.question;
+              records = [];
+            }) }
         ensures* finished { sem 𝓛 (Rests the_row self.entry (λ new. new.begun ≡ false)) }
     {
         self.begun = false;
@@ -158,7 +174,8 @@ impl Reply {
         requires { IsTrue self.old.begun }
         ensures bytes { (r : model.Reply) → self.old ≡ draft_of r → result.now ≡ model.tcp_bytes r }
         ensures most { length result.now ≤ 65537 }
-        ensures reads_back { (r : model.Reply) → self.old ≡ draft_of r → IsReply r → IsMessageOf r (drop 2 result.now) }
+        ensures reads_back { (r : model.Reply) → self.old ≡ draft_of r → IsReply r
+            → IsMessageOf r (drop 2 result.now) }
         ensures* finished { sem 𝓛 (Rests the_row self.entry (λ new. new.begun ≡ false)) }
     {
         self.begun = false;

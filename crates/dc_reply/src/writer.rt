@@ -1,7 +1,7 @@
 //! Writing names and records, with pointers to what was written before (RFC 1035, 4.1.4).
 ghost use Rattle.std.specs.Prelude.{◌≡◌, ◌≢◌, ◌+◌, ◌≤◌, [], ◌∷◌, ◌++◌, length, take, drop, slice_index_or, option_map, IfOk, IfSome, ◌<◌};
 ghost use Rattle.dc_model.specs.Message.{u16, u32, class_in};
-ghost use Rattle.dc_model.specs.Reply.{suffix_of, joined, name_written, body_written, answer_written, question_written};
+ghost use Rattle.dc_model.specs.Reply.{suffix_of, joined, before_bytes, name_written, body_written, answer_written, question_written};
 ghost use Rattle.dc_reply.specs.Bodies.{body_of, answer_of};
 ghost use Rattle.dc_reply.specs.Put.{nothing, with_more, plain_length};
 
@@ -67,7 +67,10 @@ impl Writer {
     pub(crate) fn truncate(&mut self, len: usize, known: usize)
         requires len { len ≤ length self.old.written.bytes }
         requires known { known ≤ length self.old.written.table }
-        ensures { self.new.written ≡ record { bytes = take len self.old.written.bytes; table = take known self.old.written.table } }
+        ensures { self.new.written ≡ record {
+          bytes = take len self.old.written.bytes;
+          table = take known self.old.written.table;
+        } }
     {
         self.message.truncate(len);
         self.table.truncate(known);
@@ -76,7 +79,7 @@ impl Writer {
     /// Writes bytes as they are.
     fn put(&mut self, more: &[u8])
         requires { length self.old.written.bytes + length more.now ≤ 67000 }
-        ensures { self.new.written ≡ record { bytes = self.old.written.bytes ++ more.now; table = self.old.written.table } }
+        ensures { self.new.written ≡ before_bytes self.old.written more.now }
     {
         self.message.put(more);
     }
@@ -84,7 +87,7 @@ impl Writer {
     /// Writes a number as two bytes.
     fn put_u16(&mut self, n: u16)
         requires { length self.old.written.bytes + 2 ≤ 67000 }
-        ensures { self.new.written ≡ record { bytes = self.old.written.bytes ++ u16 n; table = self.old.written.table } }
+        ensures { self.new.written ≡ before_bytes self.old.written (u16 n) }
     {
         self.put(&n.to_be_bytes());
     }
@@ -92,7 +95,7 @@ impl Writer {
     /// Writes a number as four bytes.
     fn put_u32(&mut self, n: u32)
         requires { length self.old.written.bytes + 4 ≤ 67000 }
-        ensures { self.new.written ≡ record { bytes = self.old.written.bytes ++ u32 n; table = self.old.written.table } }
+        ensures { self.new.written ≡ before_bytes self.old.written (u32 n) }
     {
         self.put(&n.to_be_bytes());
     }
@@ -100,7 +103,10 @@ impl Writer {
     /// Writes a number over the two bytes at a place behind the header.
     fn set_u16(&mut self, at: usize, n: u16)
         requires { at + 2 ≤ length self.old.written.bytes }
-        ensures { self.new.written ≡ record { bytes = take at self.old.written.bytes ++ (u16 n ++ drop (at + 2) self.old.written.bytes); table = self.old.written.table } }
+        ensures { self.new.written ≡ record {
+          bytes = take at self.old.written.bytes ++ (u16 n ++ drop (at + 2) self.old.written.bytes);
+          table = self.old.written.table;
+        } }
     {
         self.message.set_u16(at, n);
     }
@@ -116,9 +122,12 @@ impl Writer {
     /// Writes the first label of a name, and keeps the name where it can be pointed to.
     fn label(&mut self, name: &Suffix<'_>)
         requires { length self.old.written.bytes + 1 + length (slice_index_or name.now 0 []) ≤ 67000 }
-        ensures bytes { let label = slice_index_or name.now 0 [] in self.new.written.bytes ≡ self.old.written.bytes ++ length label ∷ label }
-        ensures len { length self.new.written.bytes ≡ length self.old.written.bytes + 1 + length (slice_index_or name.now 0 []) }
-        ensures table { self.new.written.table ≡ joined name.now (12 + length self.old.written.bytes) self.old.written.table }
+        ensures bytes { let label = slice_index_or name.now 0 [] in
+            self.new.written.bytes ≡ self.old.written.bytes ++ length label ∷ label }
+        ensures len { length self.new.written.bytes
+            ≡ length self.old.written.bytes + 1 + length (slice_index_or name.now 0 []) }
+        ensures table { self.new.written.table
+            ≡ joined name.now (12 + length self.old.written.bytes) self.old.written.table }
     {
         self.table.join(name, HEADER + self.message.len());
         let label = name.label();
@@ -147,7 +156,8 @@ impl Writer {
     /// Writes the question behind the header.
     pub(crate) fn question(&mut self, name: &Name, qtype: u16, qclass: u16)
         requires { self.old.written ≡ nothing }
-        ensures written { self.new.written ≡ question_written (record { name = name.now; kind = qtype; class = qclass }) }
+        ensures written { self.new.written
+            ≡ question_written (record { name = name.now; kind = qtype; class = qclass }) }
         ensures len { length self.new.written.bytes ≤ 259 }
     {
         self.name(name);
@@ -159,7 +169,8 @@ impl Writer {
     fn body(&mut self, body: Body<'_>)
         requires { length self.old.written.bytes + plain_length (body_of body) + 530 ≤ 67000 }
         ensures written { self.new.written ≡ with_more self.old.written (body_written (body_of body.entry)) }
-        ensures len { length self.new.written.bytes ≤ length self.old.written.bytes + plain_length (body_of body.entry) + 530 }
+        ensures len { length self.new.written.bytes
+            ≤ length self.old.written.bytes + plain_length (body_of body.entry) + 530 }
     {
         match body {
             Body::Bytes(bytes) => self.put(bytes),
@@ -176,10 +187,11 @@ impl Writer {
         }
     }
 
-    /// Writes what stands between an answer's owner and its data: the type, the class, the TTL, and room for the data's length.
+    /// Writes what stands between an answer's owner and its data: the type, the class, the TTL, and
+    /// room for the data's length.
     fn fixed(&mut self, kind: u16, ttl: u32)
         requires { length self.old.written.bytes + 10 ≤ 67000 }
-        ensures { self.new.written ≡ record { bytes = self.old.written.bytes ++ (u16 kind ++ (u16 class_in ++ (u32 ttl ++ u16 0))); table = self.old.written.table } }
+        ensures { self.new.written ≡ before_bytes self.old.written (u16 kind ++ (u16 class_in ++ (u32 ttl ++ u16 0))) }
     {
         self.put_u16(kind);
         self.put_u16(CLASS_IN);
@@ -187,10 +199,12 @@ impl Writer {
         self.put_u16(0);
     }
 
-    /// Writes an answer of class IN. There is room for one behind the bytes of any message, but for data that are plain bytes.
+    /// Writes an answer of class IN. There is room for one behind the bytes of any message, but for
+    /// data that are plain bytes.
     pub(crate) fn answer(&mut self, owner: &Name, kind: u16, ttl: u32, body: Body<'_>)
         requires { length self.old.written.bytes + plain_length (body_of body) ≤ 65523 }
-        ensures written { self.new.written ≡ with_more self.old.written (answer_written (answer_of owner.now kind ttl body.entry)) }
+        ensures written { self.new.written
+            ≡ with_more self.old.written (answer_written (answer_of owner.now kind ttl body.entry)) }
         ensures most { length self.new.written.bytes ≤ 67000 }
     {
         self.name(owner);
