@@ -5,8 +5,8 @@ use std::process::Abort;
 use std::test::Fail;
 
 /// The link at a place.
-fn link(image: &[u8], at: usize) -> Option<u32> {
-    let link: [u8; 4] = image.get(at..)?.get(..4)?.try_into().ok()?;
+pub fn link(image: &[u8], at: u32) -> Option<u32> {
+    let link: [u8; 4] = image.get(at as usize..)?.get(..4)?.try_into().ok()?;
     Some(u32::from_le_bytes(link))
 }
 

@@ -6,4 +6,6 @@ mod block;
 #[cfg(test)]
 mod both;
 #[cfg(test)]
+mod chains;
+#[cfg(test)]
 mod rows;
