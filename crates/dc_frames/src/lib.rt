@@ -1,0 +1,11 @@
+//! What a query looks for: its frames and aliases, and with them what a message says of the name on top.
+#![tactic(auto)]
+
+mod frame;
+mod place;
+mod query;
+
+pub use dc_marks::{Class, Found, class_of, classify, found};
+pub use frame::{Frame, Renamed};
+pub use query::Query;
+pub use std::alloc::AllocError as NoMemory;
