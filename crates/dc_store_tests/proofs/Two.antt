@@ -1,8 +1,8 @@
 -- A block that holds two entries of one bucket.
 use Rattle.std.proofs.Common.{◌≡◌, ℕ, List, [], ◌∷◌, length, refl, ap, subst}
 use Rattle.std.proofs.lemmas.Bool.{eq-eqb}
-use Rattle.dc_model.specs.Cache.{Entry, bucket}
-use Rattle.dc_model.specs.Layout.{IsHead, chain, Stands, Holds}
+use Rattle.dc_model.specs.Cache.{bucket}
+use Rattle.dc_model.specs.Layout.{IsHead, chain, Holds}
 use Rattle.dc_model.proofs.SizeLemmas.{bucket_head}
 use Rattle.dc_chain.specs.Chains.{place, IsTail, IsAfter}
 

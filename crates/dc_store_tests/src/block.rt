@@ -1,7 +1,15 @@
 //! What the block holds.
+ghost use Rattle.std.specs.Prelude.{◌≡◌, ◌<◌};
+
+use crate::chains::find;
+use dc_arena::Arena;
 use dc_bucket::{bucket_of, hash_of, hsize_of};
-use dc_ring::{ArenaStore, Marks, Store};
+use dc_chain::Chains;
+use dc_ring::{ArenaStore, Marks, NoMemory, Steps, Store};
+use std::alloc::Global;
+use std::marker::Brand;
 use std::process::Abort;
+use std::sync::ledger::{Blank, Ledger};
 use std::test::Fail;
 
 /// The link at a place.
@@ -58,5 +66,49 @@ fn marks_and_links(rt: HostRuntime) -> Result<(), Fail> {
     assert!(rt; store.marks() == marks(4, 100, 100));
     assert_eq!(rt; link(store.image(), 0), Some(0));
     assert_eq!(rt; store.image().len(), 100);
+    Ok(())
+}
+
+/// A store over a copy of another one's block.
+fn adopted_store(alloc: Global, store: &ArenaStore) -> Result<ArenaStore, NoMemory> {
+    let bytes = store.image().to_vec(alloc)?;
+    Ok(ArenaStore::adopt(bytes, store.marks()))
+}
+
+/// Chains over a copy of a store's block.
+fn adopted_chains(alloc: Global, store: &ArenaStore) -> Result<Chains, NoMemory> {
+    let bytes = store.image().to_vec(alloc)?;
+    Ok(Chains::adopt(Arena::of(bytes), store.marks()))
+}
+
+/// Looks a key up with its steps counted.
+fn is_counted<L: Ledger>(store: &ArenaStore, key: &[u8], blank: Blank) -> bool
+    requires name { blank.name ≡ L.name }
+    requires parts { blank.parts ≡ L.parts }
+    requires some { 0 < L.parts }
+{
+    let mut steps = Steps::<L>::new(blank);
+    store.get_counted(key, 0, &mut steps).is_some()
+}
+
+/// In 3000 bytes the keys `[i, i]` are one bucket: the oldest is found at its place while it is the 101st.
+#[test]
+fn the_101st_entry(rt: HostRuntime) -> Result<(), Fail> {
+    let mut store = ArenaStore::new(rt.alloc(), 3000)?;
+    for i in 0..101u8 {
+        store.put(&[i, i], b"", 100, 0);
+    }
+    let chains = adopted_chains(rt.alloc(), &store)?;
+    assert_eq!(rt; find::<Brand>(&chains, &[0, 0], Blank::new(1)), Some(128));
+    assert!(rt; is_counted::<Brand>(&store, &[0, 0], Blank::new(1)));
+    store.put(&[101, 101], b"", 100, 0);
+    let chains = adopted_chains(rt.alloc(), &store)?;
+    assert_eq!(rt; find::<Brand>(&chains, &[0, 0], Blank::new(1)), None);
+    assert!(rt; !is_counted::<Brand>(&store, &[0, 0], Blank::new(1)));
+    let again = adopted_store(rt.alloc(), &store)?;
+    assert!(rt; again.marks() == store.marks());
+    assert!(rt; again.get(&[0, 0], 0).is_none());
+    assert!(rt; again.get(&[1, 1], 0).is_some());
+    assert_eq!(rt; again.motion(), 0);
     Ok(())
 }

@@ -27,7 +27,7 @@ fn put_at(chains: &mut Chains, at: u32, key: &[u8], body: &[u8])
 }
 
 /// Finds a key, with the steps counted.
-fn find<L: Ledger>(chains: &Chains, key: &[u8], blank: Blank) -> Option<u32>
+pub fn find<L: Ledger>(chains: &Chains, key: &[u8], blank: Blank) -> Option<u32>
     requires name { blank.name ≡ L.name }
     requires parts { blank.parts ≡ L.parts }
     requires some { 0 < L.parts }

@@ -1,5 +1,5 @@
-use Rattle.std.proofs.Common.{ℕ, List, [], ◌∷◌, length, sym, subst, inr}
-use Rattle.dc_model.specs.Layout.{Place, Holds}
+use Rattle.std.proofs.Common.{[], ◌∷◌, inr}
+use Rattle.dc_model.specs.Layout.{Place}
 use Rattle.dc_chain.specs.Chains.{place}
 use Rattle.dc_store_tests.proofs.Two.{older_is_tail}
 use Rattle.dc_store_tests.proofs.chains.two_entries.Goals as goal
