@@ -1,0 +1,9 @@
+pub mod Environment
+pub mod Settings
+pub mod Tree
+pub mod Told
+pub mod Answered
+pub mod Variables
+pub mod Folders
+pub mod Conf
+pub mod Kept

@@ -1,0 +1,43 @@
+//! Why there is no configuration.
+
+use crate::FileName;
+use std::alloc::AllocError;
+
+/// A variable that has to be set.
+#[derive(Clone, Copy, Debug, PartialEq, Eq)]
+pub enum Variable {
+    /// `IP`, the address on which clients are served.
+    Ip,
+    /// `IPSEND`, the address from which questions are sent.
+    Ipsend,
+    /// `CACHESIZE`, the number of bytes of the cache.
+    Cachesize,
+}
+
+/// Why there is no configuration.
+#[derive(Debug, Drop)]
+pub enum ConfigError {
+    /// The variable isn't set, or can't be read.
+    BadVariable(Variable),
+    /// The file in `servers` has a name that is no zone's, or its zone can't be added.
+    BadZone(FileName),
+    /// The root has no server.
+    NoRoot,
+    /// The file in `ip` has a name that is no permission, or there are 4096 permissions already.
+    BadPermit(FileName),
+    /// A folder or a file couldn't be read.
+    FilesFault,
+    /// There is no memory.
+    NoMemory,
+}
+
+impl From<AllocError> for ConfigError {
+    ghost use Rattle.std.specs.Prelude.{◌≡◌};
+    ghost use Rattle.dc_config.specs.declared.error.ConfigError.TheVariants.{NoMemory};
+
+    ghost from_gives = { λ _ e. e ≡ NoMemory };
+
+    fn from(_refused: AllocError) -> ConfigError {
+        ConfigError::NoMemory
+    }
+}

@@ -1,0 +1,111 @@
+//! Files of the system.
+ghost use Rattle.std.specs.Prelude.{◌≡◌, ◌≤◌, ℕ, None, Option};
+ghost use Rattle.dc_event.specs.Causes.{Rose};
+
+use crate::{FileName, FileRead, Files, Listed};
+use std::alloc::Global;
+use std::io::{ErrorKind, Read};
+use std::marker::Model;
+use std::rt::Files as FileSystem;
+use std::{fs, io};
+
+/// The most bytes of a file.
+const MOST_BYTES: usize = 1000000;
+
+/// The folders and files of a runtime. They tell nothing. A folder or file that can't be read, a name that isn't UTF-8 and a
+/// file of over 1000000 bytes are faults.
+#[derive(Drop)]
+pub struct HostFiles<R> {
+    rt: R,
+    faults: u64,
+}
+
+impl<R> Model for HostFiles<R> {
+    ghost use Rattle.std.specs.Prelude.{ℕ};
+
+    ghost Value = { ℕ };
+
+    ghost view = { λ a. a.faults };
+}
+
+impl<R> HostFiles<R> {
+    /// The folders and files of this runtime.
+    pub fn new(rt: R) -> HostFiles<R>
+        ensures { result ≡ 0 }
+    {
+        HostFiles { rt, faults: 0 }
+    }
+
+    /// Counts a fault.
+    fn fail(&mut self)
+        ensures later { self.old ≤ self.new }
+        ensures rose { Rose self.old self.new }
+    {
+        self.faults = self.faults.saturating_add(1);
+    }
+}
+
+/// The names of a folder's files.
+fn names_in<R: FileSystem + Alloc + Clone + Drop>(
+    rt: &R,
+    alloc: Global,
+    folder: &str,
+) -> io::Result<Vec<FileName>> {
+    let mut names = Vec::new(alloc);
+    for entry in fs::read_dir(rt, folder)? {
+        let entry = entry?;
+        names.push(FileName::new(String::from_str(alloc, entry.file_name())?))?;
+    }
+    Ok(names)
+}
+
+/// The first 1000001 bytes of a file.
+fn bytes_at<R: FileSystem>(rt: &R, alloc: Global, path: &str) -> io::Result<Vec<u8>> {
+    let mut bytes = Vec::new(alloc);
+    fs::open(rt, path)?
+        .take(MOST_BYTES as u64 + 1)
+        .read_to_end(&mut bytes)?;
+    Ok(bytes)
+}
+
+impl<R: FileSystem + Alloc + Clone + Drop> Files for HostFiles<R> {
+    ghost tree = { λ _. None };
+
+    ghost faults = { λ s. s };
+
+    fn list(&mut self, alloc: Global, folder: &str) -> Listed {
+        match names_in(&self.rt, alloc, folder) {
+            Ok(names) => Listed::Names(names),
+            Err(why) => match why.kind() {
+                ErrorKind::NotFound => Listed::Absent,
+                ErrorKind::OutOfMemory => Listed::NoMemory,
+                _ => {
+                    self.fail();
+                    Listed::Failed
+                }
+            },
+        }
+    }
+
+    fn read(&mut self, alloc: Global, path: &str) -> FileRead {
+        match bytes_at(&self.rt, alloc, path) {
+            Ok(bytes) if bytes.len() <= MOST_BYTES => FileRead::Bytes(bytes),
+            Ok(_) => {
+                self.fail();
+                FileRead::Failed
+            }
+            Err(why) => match why.kind() {
+                ErrorKind::NotFound => FileRead::Absent,
+                ErrorKind::OutOfMemory => FileRead::NoMemory,
+                _ => {
+                    self.fail();
+                    FileRead::Failed
+                }
+            },
+        }
+    }
+
+    fn faults(&self) -> u64 {
+        self.faults
+    }
+}
