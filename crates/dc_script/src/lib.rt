@@ -4,8 +4,11 @@
 pub mod action;
 mod digits;
 pub mod events;
+pub mod laws;
 pub mod lines;
 mod reader;
+#[cfg(test)]
+mod tests;
 mod text;
 pub mod world;
 mod write;
