@@ -5,8 +5,8 @@ use Rattle.std.specs.Io.KnownBytes.{IsAtEnd}
 use Rattle.dc_model.specs.Event.{Event}
 use Rattle.dc_script.specs.Script.{bad_at, most_line}
 use Rattle.dc_script.specs.Read.{after_events, says, line_event, end_text, unread, Read, Read-same, ReadOff}
-use Rattle.dc_script.specs.World.{IsOver, Breaks}
-use Rattle.dc_script.proofs.ReadLemmas.{HasNoFeed, says-event, says-bad, says-none, says-end, says-more, says-long, unread-more, unread-found, unread-end}
+use Rattle.dc_script.specs.World.{IsOver, Breaks, SaysNoMore}
+use Rattle.dc_script.proofs.ReadLemmas.{HasNoFeed, says-event, says-bad, says-none, says-end, says-more, says-long, unread-more, unread-found, unread-end, says-behind}
 
 -- Something stands behind the line `end`.
 pub Breaks-behind : (left : Option (List ℕ)) (found : Bool) (line rest : List ℕ) (lines k : ℕ) → 0 < length ((if found then line ++ (10 ∷ []) else []) ++ rest)
@@ -102,3 +102,10 @@ ReadOff-end took none a line line' rest lines e =
 pub Breaks-found : (left : Option (List ℕ)) (line rest : List ℕ) (lines k : ℕ) → (lines + 1 + 1 < 2 ^ 64 → k ≡ lines + 1 + 1) → Breaks left (unread true true line rest) lines k
 Breaks-found left line rest lines k number =
     Breaks-behind left true line rest lines k (omega (arith, length-append (line ++ (10 ∷ [])) rest, length-append line (10 ∷ []))) number
+
+-- What is held behind the line `end`, or before it, has no whole line.
+pub no_more : (ended : Bool) (line rest : List ℕ) → HasNoFeed rest → SaysNoMore (unread ended false line rest)
+unfolding unread
+no_more false line rest one = λ n. ap (λ s. s.events) (says-none n rest one)
+no_more true line [] one = λ n. ap (λ s. s.events) (says-end n)
+no_more true line (c ∷ cs) one = λ n. ap (λ s. s.events) (says-behind n c cs)

@@ -10,9 +10,9 @@ use Rattle.dc_event.specs.declared.answers.Heard.{Heard}
 use Rattle.dc_event.specs.declared.answers.Heard.TheVariants as answer
 use Rattle.dc_script.specs.Script.{most_line, event_of_line}
 use Rattle.dc_script.specs.Read.{line_event, unread, ReadOff}
-use Rattle.dc_script.specs.World.{IsOver, Breaks, NoEvent, Answered}
+use Rattle.dc_script.specs.World.{IsOver, Breaks, NoEvent, Answered, SaysNoMore, IfFailed}
 use Rattle.dc_script.proofs.ReadLemmas.{HasNoFeed, unread-end}
-use Rattle.dc_script.proofs.BreakLemmas.{Breaks-behind, IsOver-end, Breaks-line, Breaks-long, Breaks-short, ReadOff-event}
+use Rattle.dc_script.proofs.BreakLemmas.{no_more, Breaks-behind, IsOver-end, Breaks-line, Breaks-long, Breaks-short, ReadOff-event}
 
 -- Behind the line `end`
 
@@ -129,3 +129,26 @@ long-rest m rest bytes e h = omega (arith, ap length e)
 
 pub one-rest : (m : ℕ) (rest bytes : List ℕ) → rest ≡ bytes → HasNoFeed (take m bytes) → HasNoFeed (take m rest)
 one-rest m rest bytes e h = let P : List ℕ → Type 0 = λ t. HasNoFeed (take m t) in subst P (sym e) h
+
+pub one_same : (rest bytes : List ℕ) → rest ≡ bytes → HasNoFeed bytes → HasNoFeed rest
+one_same rest bytes e h = let P : List ℕ → Type 0 = λ t. HasNoFeed t in subst P (sym e) h
+
+-- No whole line is held.
+pub SaysNoMore-here : (ended found : Bool) (line rest : List ℕ) → found ≡ false → HasNoFeed rest → SaysNoMore (unread ended found line rest)
+SaysNoMore-here ended found line rest f one = let P : Bool → Type 0 = λ b. SaysNoMore (unread ended b line rest) in subst P (sym f) (no_more ended line rest one)
+
+pub IfFailed-from : (a : Heard) (failed other other' : Type 0) → (other → other') → IfFailed a failed other → IfFailed a failed other'
+IfFailed-from answer.Event failed other other' f h = f h
+IfFailed-from answer.End failed other other' f h = f h
+IfFailed-from answer.Failed failed other other' f h = h
+IfFailed-from (answer.Bad line) failed other other' f h = f h
+
+-- A read fails only in a call that answers so.
+pub stopped_now : (a : Heard) (now before : Bool) (stopped : Type 0) → IfFailed a stopped (now ≡ before) → before ≡ false → now ≡ true → stopped
+stopped_now answer.Event now before stopped h e f = cc
+stopped_now answer.End now before stopped h e f = cc
+stopped_now answer.Failed now before stopped h e f = h
+stopped_now (answer.Bad line) now before stopped h e f = cc
+
+pub IfFailed-then : (a : Heard) (failed : Type 0) (x y z : Bool) → y ≡ z → IfFailed a failed (x ≡ y) → IfFailed a failed (x ≡ z)
+IfFailed-then a failed x y z e h = IfFailed-from a failed (x ≡ y) (x ≡ z) (λ d. d ∙ e) h

@@ -23,7 +23,7 @@ abbrev pub Finds : NextLine → List ℕ → Held → (left : Option (List ℕ))
 Finds Found bytes new left = (bytes ≡ new.line ++ (10 ∷ new.rest)) × IsOneLine new.line × (length new.line ≤ most_line)
 Finds TooLong bytes new left = (new.rest ≡ bytes) × (most_line < length bytes) × IsOneLine (take (most_line + 1) bytes)
 Finds Ended bytes new left = (new.rest ≡ bytes) × IsOneLine bytes × IsAtEnd left
-Finds Failed bytes new left = new.rest ≡ bytes
+Finds Failed bytes new left = (new.rest ≡ bytes) × IsOneLine bytes
 
 -- Between two states of a source some bytes were taken, and only where no whole line was held. This was found in what was held
 -- and them.

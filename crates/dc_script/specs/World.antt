@@ -51,18 +51,23 @@ pub record Wrote {S K : Type 0} (gained : K → List ℕ → K → Type 0) (old 
 abbrev pub IsOver : List ℕ → Type 0
 IsOver text = (n : ℕ) → says n text ≡ record { events = []; bad = None }
 
+-- The text has no whole line of an event.
+abbrev pub SaysNoMore : List ℕ → Type 0
+SaysNoMore text = (n : ℕ) → (says n text).events ≡ []
+
 -- After so many lines, line k is outside the grammar: whatever follows, or since the source is at its end.
 pub record Breaks (left : Option (List ℕ)) (text : List ℕ) (lines k : ℕ) : Type 0 where
   pub ahead : ℕ
   pub number : lines + 1 + ahead < 2 ^ 64 → k ≡ lines + 1 + ahead
   pub bad : ((tail : List ℕ) (n : ℕ) → says n (text ++ tail) ≡ bad_at (n + ahead)) ⊎ (IsAtEnd left × ((n : ℕ) → says n text ≡ bad_at (n + ahead)))
 
--- What stands of a line that was looked for: it was found; or it is too long; or there is no whole line, and the source is at its end.
+-- What stands of a line that was looked for: it was found; or it is too long; or there is no whole line, and the source is at its end, or
+-- failed.
 abbrev pub Peeked : NextLine → (found : Bool) → (rest : List ℕ) → (left : Option (List ℕ)) → Type 0
 Peeked Found found rest left = found ≡ true
 Peeked TooLong found rest left = (found ≡ false) × (most_line < length rest) × IsOneLine (take (most_line + 1) rest)
 Peeked Ended found rest left = (found ≡ false) × IsOneLine rest × IsAtEnd left
-Peeked Failed found rest left = Unit {0}
+Peeked Failed found rest left = (found ≡ false) × IsOneLine rest
 
 -- What an answer without an event says.
 abbrev pub NoEvent : Answer → (over : Type 0) → (breaks : ℕ → Type 0) → (failed : Type 0) → Type 0
@@ -84,6 +89,20 @@ faults_behind answer.Event n = n
 faults_behind answer.End n = n
 faults_behind answer.Failed n = counted n
 faults_behind (answer.Bad line) n = n
+
+-- One fact where the answer is a fault, and another where it is none.
+abbrev pub IfFailed : Answer → (failed other : Type 0) → Type 0
+IfFailed answer.Event failed other = other
+IfFailed answer.End failed other = other
+IfFailed answer.Failed failed other = failed
+IfFailed (answer.Bad line) failed other = other
+
+-- The same of a line that was looked for.
+abbrev pub IfStopped : NextLine → (failed other : Type 0) → Type 0
+IfStopped Found failed other = other
+IfStopped TooLong failed other = other
+IfStopped Ended failed other = other
+IfStopped Failed failed other = failed
 
 -- Laws
 
@@ -140,6 +159,13 @@ pub next_same : {S K : Type 0} (old mid new : Recorded S K) (a : Answer)
 next_same {S} {K} old mid new a e f =
     let P : Recorded S K → Type 0 = λ w. w ≡ record old { source = w.source; unread = w.unread; lines = w.lines; read_failed = w.read_failed; faults = faults_behind a old.faults; last = Some a } in
     subst P (sym f) (ap {A = Recorded S K} (λ w. record w { faults = faults_behind a w.faults; last = Some a }) e)
+
+-- What is unread behind a read that failed.
+pub next_stopped : {S K : Type 0} (mid new : Recorded S K) (a : Answer) → new ≡ record mid { faults = faults_behind a mid.faults; last = Some a }
+    → (mid.read_failed ≡ true → SaysNoMore mid.unread) → new.read_failed ≡ true → SaysNoMore new.unread
+next_stopped {S} {K} mid new a e h =
+    let P : Recorded S K → Type 0 = λ w. w.read_failed ≡ true → SaysNoMore w.unread in
+    subst P (sym e) h
 
 -- Where a list was acted, it was written.
 pub Acted-wrote : {S K : Type 0} (gained : K → List ℕ → K → Type 0) (a b : Recorded S K) (xs : List Action) → Acted gained a xs b → Wrote gained a xs b

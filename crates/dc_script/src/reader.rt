@@ -8,7 +8,7 @@ ghost use Rattle.dc_model.specs.Event.{IsEvent};
 ghost use Rattle.dc_script.specs.Read.{unread, ReadOff};
 ghost use Rattle.dc_script.specs.Script.{AreDigits};
 ghost use Rattle.dc_script.specs.View.{line_says};
-ghost use Rattle.dc_script.specs.World.{IsOver, Breaks, Peeked, NoEvent, Answered};
+ghost use Rattle.dc_script.specs.World.{IsOver, Breaks, Peeked, NoEvent, Answered, SaysNoMore, IfFailed, IfStopped};
 
 use crate::digits::decode;
 use crate::events::{EventLine, event_line};
@@ -91,6 +91,7 @@ impl<S: Source> Reader<S> {
         ensures later { S.faults self.old.source ≤ S.faults self.new.source }
         ensures failed { result ≡ NextLine.Failed → Rose (S.faults self.old.source) (S.faults self.new.source) }
         ensures marked { result ≡ NextLine.Failed → self.new.failed ≡ true }
+        ensures stopped { IfStopped result (SaysNoMore (unread self.new.ended self.new.found self.new.rest.line self.new.rest.rest)) (self.new.failed ≡ self.old.failed) }
     {
         if self.found {
             return NextLine::Found;
@@ -122,6 +123,7 @@ impl<S: Source> Reader<S> {
             ((self.new.failed ≡ true) × Rose (S.faults self.old.source) (S.faults self.new.source)) }
         ensures start { self.new.start ≡ self.old.start }
         ensures later { S.faults self.old.source ≤ S.faults self.new.source }
+        ensures stopped { IfFailed result (SaysNoMore (unread self.new.ended self.new.found self.new.rest.line self.new.rest.rest)) (self.new.failed ≡ self.old.failed) }
     {
         match self.peek() {
             NextLine::Failed => Heard::Failed,
@@ -156,6 +158,7 @@ impl<S: Source> Reader<S> {
             ((self.new.failed ≡ true) × Rose (S.faults self.old.source) (S.faults self.new.source)) }
         ensures start { self.new.start ≡ self.old.start }
         ensures later { S.faults self.old.source ≤ S.faults self.new.source }
+        ensures stopped { IfFailed result (SaysNoMore (unread self.new.ended self.new.found self.new.rest.line self.new.rest.rest)) (self.new.failed ≡ self.old.failed) }
     {
         if is_end(self.rest.line()) {
             self.found = false;
@@ -186,6 +189,7 @@ impl<S: Source> Reader<S> {
             ((self.new.failed ≡ true) × Rose (S.faults self.old.source) (S.faults self.new.source)) }
         ensures start { self.new.start ≡ self.old.start }
         ensures later { S.faults self.old.source ≤ S.faults self.new.source }
+        ensures stopped { IfFailed result (SaysNoMore (unread self.new.ended self.new.found self.new.rest.line self.new.rest.rest)) (self.new.failed ≡ self.old.failed) }
     {
         match self.peek() {
             NextLine::Failed => Heard::Failed,
@@ -208,6 +212,7 @@ impl<S: Source> Reader<S> {
             ((self.new.failed ≡ true) × Rose (S.faults self.old.source) (S.faults self.new.source)) }
         ensures start { self.new.start ≡ self.old.start }
         ensures later { S.faults self.old.source ≤ S.faults self.new.source }
+        ensures stopped { IfFailed result (SaysNoMore (unread self.new.ended self.new.found self.new.rest.line self.new.rest.rest)) (self.new.failed ≡ self.old.failed) }
     {
         if self.ended {
             self.behind_end()

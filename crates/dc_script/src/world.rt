@@ -7,7 +7,7 @@ ghost use Rattle.dc_model.specs.Event.{Action as ModelAction, Event};
 ghost use Rattle.dc_event.specs.Answers.{heard_by, Warrants};
 ghost use Rattle.dc_event.specs.Causes.{Rose};
 ghost use Rattle.dc_script.specs.View.{action_of};
-ghost use Rattle.dc_script.specs.World.{Recorded, Acted, HandedOut, Wrote, IsOver, Breaks, Acted-none, Acted-both, Wrote-none, Wrote-both, Acted-wrote, Acted-faults, HandedOut-none, HandedOut-both, Acted-heard, Answered, faults_behind};
+ghost use Rattle.dc_script.specs.World.{Recorded, Acted, HandedOut, Wrote, IsOver, Breaks, Acted-none, Acted-both, Wrote-none, Wrote-both, Acted-wrote, Acted-faults, HandedOut-none, HandedOut-both, Acted-heard, Answered, faults_behind, SaysNoMore};
 
 use crate::action::Action;
 use crate::lines::LineRest;
@@ -120,6 +120,7 @@ impl<S: Source, K: Sink> ScriptWorld<S, K> {
         ensures answer { Answered result inbox.new (IsAtEnd (S.left self.new.source) × IsOver self.new.unread × (self.new.write_failed ≡ false))
             (λ number. Breaks (S.left self.new.source) self.new.unread self.new.lines number × (self.new.write_failed ≡ false))
             (Rose self.new.source_start (S.faults self.new.source) ⊎ Rose self.new.sink_start (K.faults self.new.sink)) }
+        ensures stopped { self.old.read_failed ≡ false → self.new.read_failed ≡ true → SaysNoMore self.new.unread }
         ensures read { self.old.read_failed ≡ true → result ≡ Heard.Failed }
         ensures write { self.old.write_failed ≡ true → result ≡ Heard.Failed }
     {
@@ -240,6 +241,7 @@ impl<S: Source, K: Sink> World for ScriptWorld<S, K> {
           last = Some result;
         } }
         ensures cause { result ≡ Heard.Failed → Rose self.new.source_start (S.faults self.new.source) ⊎ Rose self.new.sink_start (K.faults self.new.sink) }
+        ensures stopped { self.old.read_failed ≡ false → self.new.read_failed ≡ true → SaysNoMore self.new.unread }
         ensures read { self.old.read_failed ≡ true → result ≡ Heard.Failed }
         ensures write { self.old.write_failed ≡ true → result ≡ Heard.Failed }
     {

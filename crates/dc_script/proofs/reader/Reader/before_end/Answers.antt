@@ -1,7 +1,8 @@
 use Rattle.std.proofs.Common.{[], refl, ◌∙◌}
 use Rattle.dc_event.specs.Answers.{heard_by}
-use Rattle.dc_script.specs.Read.{ReadOff-both}
-use Rattle.dc_script.proofs.StateLemmas.{Breaks-far, Breaks-open}
+use Rattle.dc_script.specs.Read.{unread, ReadOff-both}
+use Rattle.dc_script.specs.World.{SaysNoMore}
+use Rattle.dc_script.proofs.StateLemmas.{Breaks-far, Breaks-open, IfFailed-then}
 use Rattle.dc_script.proofs.reader.Reader.before_end.Goals as goal
 
 pub returns-in-TooLong-clause-answer : goal.returns-in-TooLong-clause-answer
@@ -18,3 +19,9 @@ pub returns-in-Found-clause-heard : goal.returns-in-Found-clause-heard
 returns-in-Found-clause-heard g c =
     ReadOff-both g.S.Source.took g.met.S.Source.took_none g.met.S.Source.took_both _ _ _ _ _ _ _ _ _ [] (heard_by c.line_found.result c.line_found.new.inbox)
     c.in-Found.ensures.heard c.line_found.ensures.heard
+
+pub returns-in-Found-clause-stopped : goal.returns-in-Found-clause-stopped
+returns-in-Found-clause-stopped g c =
+    let now = c.line_found.new.self in
+    IfFailed-then c.line_found.result (SaysNoMore (unread now.ended now.found now.rest.line now.rest.rest)) now.failed c.peek.new.self.failed c.args.self.now.failed
+    c.in-Found.ensures.stopped c.line_found.ensures.stopped

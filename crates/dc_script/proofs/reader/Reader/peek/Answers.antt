@@ -1,6 +1,6 @@
 use Rattle.std.proofs.Common.{refl}
 use Rattle.dc_script.proofs.BreakLemmas.{ReadOff-found, ReadOff-more}
-use Rattle.dc_script.proofs.StateLemmas.{long-rest, one-rest}
+use Rattle.dc_script.proofs.StateLemmas.{long-rest, one-rest, one_same, SaysNoMore-here}
 use Rattle.dc_script.proofs.reader.Reader.peek.Goals as goal
 
 pub returns-in-Found-clause-heard : goal.returns-in-Found-clause-heard
@@ -11,7 +11,12 @@ returns-in-Found-clause-heard g c =
 pub returns-in-Failed-clause-heard : goal.returns-in-Failed-clause-heard
 returns-in-Failed-clause-heard g c =
     let finds = c.in-Failed.ensures.found in
-    ReadOff-more g.S.Source.took _ _ _ _ _ _ _ _ finds.0 _ c.if-self.false finds.1.taken finds.1.finds
+    ReadOff-more g.S.Source.took _ _ _ _ _ _ _ _ finds.0 _ c.if-self.false finds.1.taken finds.1.finds.0
+
+pub returns-in-Failed-clause-stopped : goal.returns-in-Failed-clause-stopped
+returns-in-Failed-clause-stopped g c =
+    let finds = c.in-Failed.ensures.found in
+    rw c.in-Failed.is (SaysNoMore-here _ _ _ _ c.if-self.false (one_same _ _ finds.1.finds.0 finds.1.finds.1))
 
 pub returns-in-TooLong-clause-heard : goal.returns-in-TooLong-clause-heard
 returns-in-TooLong-clause-heard g c =

@@ -1,0 +1,11 @@
+use Rattle.std.proofs.Common.{refl}
+use Rattle.dc_script.specs.Read.{unread}
+use Rattle.dc_script.specs.World.{SaysNoMore}
+use Rattle.dc_script.proofs.StateLemmas.{stopped_now}
+use Rattle.dc_script.proofs.world.ScriptWorld.hear.Goals as goal
+
+pub returns-clause-stopped : goal.returns-clause-stopped
+returns-clause-stopped g c =
+    let now = c.hear.new.self in
+    rw (← c.self.view_is) (λ e f. stopped_now c.hear.result now.failed c.self.inside.reader.failed
+    (SaysNoMore (unread now.ended now.found now.rest.line now.rest.rest)) c.hear.ensures.stopped e f)
