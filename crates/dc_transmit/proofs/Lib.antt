@@ -1,0 +1,9 @@
+pub mod CaseLemmas
+pub mod CourseLemmas
+pub mod EventLemmas
+pub mod GatherLemmas
+pub mod PlaceLemmas
+pub mod RelevanceLemmas
+pub mod StandingLemmas
+pub mod StepLemmas
+pub mod TestLemmas
