@@ -6,7 +6,7 @@ use Rattle.std.proofs.Math.Seq.{take-append-add}
 use Rattle.std.specs.Int.{w16, from_be_bytes}
 use Rattle.dc_model.specs.Message.{u16_at}
 use Rattle.dc_model.specs.Transmission.{is_whole}
-use Rattle.dc_transmit.specs.Gathered.{Gathered, appended, message_of}
+use Rattle.dc_transmit.specs.Gathered.{appended, message_of}
 
 pub taken : (k n : ℕ) (xs : List ℕ) → k ≤ n → take k (take n xs) ≡ take k xs
 taken zero n xs h = refl
@@ -105,13 +105,10 @@ appended_is xs ys more n count m l e h =
     ap (λ k. take k (take n xs ++ more)) room ∙ take-append-add (take n xs) more (65537 - n) in
     front ∙ (ap (λ r. take n xs ++ r) rest ∙ sym whole_front)
 
-pub appended_view : (xs ys more : List ℕ) (n count start : ℕ) → n ≤ length xs → n ≤ 65537 → count ≡ min (length more) (65537 - n)
-    → take (n + length (take count more)) ys ≡ take n xs ++ take count more
-    → (let before : Gathered = record { bytes = take n xs; start = start } in let behind : Gathered = record { bytes = take (n + count) ys; start = start } in behind ≡ appended before more)
+pub appended_view : (xs ys more : List ℕ) (n count : ℕ) → n ≤ length xs → n ≤ 65537 → count ≡ min (length more) (65537 - n)
+    → take (n + length (take count more)) ys ≡ take n xs ++ take count more → take (n + count) ys ≡ appended (take n xs) more
 unfolding appended
-appended_view xs ys more n count start m l e h =
-    let made : List ℕ → Gathered = λ b. record { bytes = b; start = start } in
-    ap made (appended_is xs ys more n count m l e h)
+appended_view xs ys more n count m l e h = appended_is xs ys more n count m l e h
 
 pub whole_room : (xs bytes : List ℕ) (n k : ℕ) → take n xs ≡ bytes → n ≤ length xs → k ≡ u16_at xs 0 → is_whole bytes ≡ true → 2 + k ≤ n
 whole_room xs bytes n k v m e h =
@@ -120,6 +117,6 @@ whole_room xs bytes n k v m e h =
     let number : u16_at bytes 0 ≡ k = ap (λ b. u16_at b 0) (sym v) ∙ (number_taken n xs (omega (arith, least.0)) ∙ sym e) in
     omega (arith, least.1)
 
-pub appended_bytes : (g : Gathered) (more : List ℕ) → (appended g more).bytes ≡ take 65537 (g.bytes ++ more)
+pub appended_bytes : (bytes more : List ℕ) → appended bytes more ≡ take 65537 (bytes ++ more)
 unfolding appended
-appended_bytes g more = refl
+appended_bytes bytes more = refl

@@ -12,8 +12,8 @@ abbrev pub no_bytes : Gathered
 no_bytes = record { bytes = []; start = 0 }
 
 -- More bytes behind those that are there, 65537 at most.
-unfoldable pub appended : Gathered → List ℕ → Gathered
-appended g bytes = record g { bytes = take 65537 (g.bytes ++ bytes) }
+unfoldable pub appended : List ℕ → List ℕ → List ℕ
+appended bytes more = take 65537 (bytes ++ more)
 
 -- The packet.
 abbrev pub packet_of : Gathered → List ℕ

@@ -10,7 +10,8 @@ use std::marker::Model;
 /// Room for the longest message behind its length.
 const ROOM: usize = 65537;
 
-/// Bytes in one buffer, which is neither cleared nor moved as a whole: a length says what counts. The packet is what stands from `start` on.
+/// Bytes in one buffer, which is neither cleared nor moved as a whole: a length says what counts. The packet is what stands from
+/// `start` on; while a stream is gathered, that is what stands behind the length.
 #[derive(Drop)]
 pub(crate) struct Gathering {
     buffer: Vec<u8>,
@@ -19,14 +20,14 @@ pub(crate) struct Gathering {
 }
 
 impl Model for Gathering {
-    ghost use Rattle.std.specs.Prelude.{◌≡◌, ◌≤◌, take, length};
+    ghost use Rattle.std.specs.Prelude.{◌≡◌, ◌≤◌, ◌+◌, take, length};
     ghost use Rattle.dc_transmit.specs.Gathered.{Gathered};
 
     ghost Value = { Gathered };
 
     ghost view = { λ a. record { bytes = take a.len a.buffer.items; start = a.start } };
 
-    ghost invariant = { λ a. (length a.buffer.items ≡ 65537) × (a.len ≤ 65537) × (a.start ≤ a.len) };
+    ghost invariant = { λ a. (length a.buffer.items ≡ 65537) × (a.len ≤ 65537) × (a.start ≤ a.len) × (a.len ≤ a.start + 65535) };
 }
 
 /// Writes bytes at a place.
@@ -61,11 +62,12 @@ impl Gathering {
 
     /// Puts bytes behind those that are there, as far as there is room.
     pub(crate) fn append(&mut self, bytes: &[u8])
-        ensures { self.new ≡ appended self.old bytes.now }
+        ensures { self.new.bytes ≡ appended self.old.bytes bytes.now }
     {
         let count = bytes.len().min(ROOM - self.len);
         put(&mut self.buffer, self.len, &bytes[..count]);
         self.len += count;
+        self.start = self.len.min(2);
     }
 
     /// Keeps a packet in place of the bytes.
@@ -106,7 +108,8 @@ impl Gathering {
 
     /// The packet that is kept.
     pub(crate) fn packet(&self) -> &[u8]
-        ensures { result.now ≡ packet_of self.now }
+        ensures packet { result.now ≡ packet_of self.now }
+        ensures most { length result.now ≤ 65535 }
     {
         &self.buffer[self.start..self.len]
     }

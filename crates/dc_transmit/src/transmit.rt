@@ -1,5 +1,5 @@
 //! A transmission.
-ghost use Rattle.std.specs.Prelude.{◌≡◌, ◌+◌, ◌<◌, ◌^◌, ◌∷◌, [], Some, IsSome, IsNone, IfOk, option_map, false};
+ghost use Rattle.std.specs.Prelude.{◌≡◌, ◌+◌, ◌<◌, ◌≤◌, ◌^◌, ◌∷◌, [], length, Some, IsSome, IsNone, IfOk, option_map, false};
 ghost use Rattle.dc_model.specs.Places.{all_empty};
 ghost use Rattle.dc_model.specs.Transmission.{waiting, opening_of, started};
 ghost use Rattle.dc_transmit.specs.Attempts.{occasion};
@@ -139,7 +139,8 @@ impl Transmit {
     /// The packet that was accepted.
     pub fn packet(&self) -> &[u8]
         requires { IsSome self.now.accepted }
-        ensures { option_map (λ p. p.packet) self.now.accepted ≡ Some result.now }
+        ensures packet { option_map (λ p. p.packet) self.now.accepted ≡ Some result.now }
+        ensures most { length result.now ≤ 65535 }
     {
         self.attempt.gathering.packet()
     }
