@@ -9,6 +9,8 @@ mod files;
 mod folders;
 mod host;
 mod memory;
+#[cfg(test)]
+mod tests;
 mod variables;
 
 pub use conf::load;

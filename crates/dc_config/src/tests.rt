@@ -1,0 +1,242 @@
+//! Configurations of environments and files.
+ghost use Rattle.std.specs.Prelude.{◌≡◌, length, IfOk};
+
+use crate::{
+    ConfigError, Env, FileRead, Files, HostFiles, Listed, MemoryFiles, NoMemory, QuietFiles,
+    Variable, first_bad, load,
+};
+use dc_name::Name;
+use dc_rules::Config;
+use std::alloc::Global;
+use std::fs;
+use std::test::Fail;
+
+/// An environment of three variables.
+fn env_of(alloc: Global, settings: [(&str, &str); 3]) -> Result<Env, NoMemory>
+    ensures { IfOk result (λ env. length env ≡ 3) }
+{
+    let [(a, x), (b, y), (c, z)] = settings;
+    let mut env = Env::new(alloc)?;
+    env.set(String::from_str(alloc, a)?, String::from_str(alloc, x)?);
+    env.set(String::from_str(alloc, b)?, String::from_str(alloc, y)?);
+    env.set(String::from_str(alloc, c)?, String::from_str(alloc, z)?);
+    Ok(env)
+}
+
+/// A path with the bytes of its file.
+fn file_of(alloc: Global, file: (&str, &[u8])) -> Result<(String, Vec<u8>), NoMemory> {
+    let (path, bytes) = file;
+    Ok((
+        String::from_str(alloc, path)?,
+        Vec::from_slice(alloc, bytes)?,
+    ))
+}
+
+/// Three files of these paths and bytes.
+fn files_of(alloc: Global, files: [(&str, &[u8]); 3]) -> Result<Vec<(String, Vec<u8>)>, NoMemory> {
+    let [first, second, third] = files;
+    let mut kept = Vec::new(alloc);
+    kept.push(file_of(alloc, first)?)?;
+    kept.push(file_of(alloc, second)?)?;
+    kept.push(file_of(alloc, third)?)?;
+    Ok(kept)
+}
+
+/// A file that no folder lists.
+const OTHER: (&str, &[u8]) = ("x/y", b"");
+
+/// An answer, in words.
+fn told(answer: &Result<Config, ConfigError>) -> (&str, &str) {
+    match answer {
+        Ok(_) => ("ok", ""),
+        Err(ConfigError::BadVariable(Variable::Ip)) => ("variable", "IP"),
+        Err(ConfigError::BadVariable(Variable::Ipsend)) => ("variable", "IPSEND"),
+        Err(ConfigError::BadVariable(Variable::Cachesize)) => ("variable", "CACHESIZE"),
+        Err(ConfigError::BadZone(file)) => ("zone", file.text()),
+        Err(ConfigError::NoRoot) => ("root", ""),
+        Err(ConfigError::BadPermit(file)) => ("permit", file.text()),
+        Err(ConfigError::FilesFault) => ("files", ""),
+        Err(ConfigError::NoMemory) => ("memory", ""),
+    }
+}
+
+/// Variables that can be read.
+const GOOD: [(&str, &str); 3] = [
+    ("IP", "127.0.0.1"),
+    ("IPSEND", "0.0.0.0"),
+    ("CACHESIZE", "5"),
+];
+
+#[test]
+fn variables_come_first(rt: HostRuntime) -> Result<(), Fail> {
+    let rows = [
+        ([("X", ""), ("IPSEND", "x"), ("CACHESIZE", "")], "IP"),
+        ([("IP", "1.2.3"), ("IPSEND", "x"), ("CACHESIZE", "")], "IP"),
+        ([("IP", "1.2.3.4"), ("X", ""), ("CACHESIZE", "")], "IPSEND"),
+        (
+            [("IP", "1.2.3.4"), ("IPSEND", "1.2.3.256"), ("X", "")],
+            "IPSEND",
+        ),
+        (
+            [("IP", "1.2.3.4"), ("IPSEND", "0.0.0.0"), ("CACHESIZE", "")],
+            "CACHESIZE",
+        ),
+        (
+            [
+                ("IP", "1.2.3.4"),
+                ("IPSEND", "0.0.0.0"),
+                ("CACHESIZE", "1a"),
+            ],
+            "CACHESIZE",
+        ),
+        (
+            [
+                ("IP", "1.2.3.4"),
+                ("IPSEND", "0.0.0.0"),
+                ("CACHESIZE", "1000000000000000000"),
+            ],
+            "CACHESIZE",
+        ),
+    ];
+    for (settings, variable) in rows {
+        let env = env_of(rt.alloc(), settings)?;
+        assert!(rt; first_bad(&env).is_some());
+        let mut files = QuietFiles::new(files_of(
+            rt.alloc(),
+            [("servers/a..b", b""), OTHER, OTHER],
+        )?);
+        assert!(rt; told(&load(rt.alloc(), &env, &mut files)) == ("variable", variable));
+    }
+    assert!(rt; first_bad(&env_of(rt.alloc(), GOOD)?).is_none());
+    Ok(())
+}
+
+#[test]
+fn files_come_in_order(rt: HostRuntime) -> Result<(), Fail> {
+    let root: (&str, &[u8]) = ("servers/@", b"198.51.100.1\n");
+    let rows: [([(&str, &[u8]); 3], (&str, &str)); 9] = [
+        ([root, ("ip/127", b""), OTHER], ("ok", "")),
+        ([root, ("ip/.x", b""), ("servers/.x..", b"")], ("ok", "")),
+        (
+            [("servers/com", b"198.51.100.1"), ("ip/x", b""), OTHER],
+            ("root", ""),
+        ),
+        (
+            [("servers/@", b"0.0.0.0"), ("ip/x", b""), OTHER],
+            ("root", ""),
+        ),
+        ([("ip/127", b""), OTHER, OTHER], ("root", "")),
+        (
+            [("servers/a..b", b""), ("ip/x", b""), OTHER],
+            ("zone", "a..b"),
+        ),
+        (
+            [("servers/com", b""), ("servers/COM", b""), root],
+            ("zone", "com"),
+        ),
+        ([root, ("ip/256", b""), ("ip/127", b"")], ("permit", "256")),
+        ([root, ("ip/b", b""), ("ip/a", b"")], ("permit", "a")),
+    ];
+    let env = env_of(rt.alloc(), GOOD)?;
+    for (files, wanted) in rows {
+        let mut files = QuietFiles::new(files_of(rt.alloc(), files)?);
+        assert!(rt; told(&load(rt.alloc(), &env, &mut files)) == wanted);
+    }
+    Ok(())
+}
+
+#[test]
+fn a_configuration_is_read(rt: HostRuntime) -> Result<(), Fail> {
+    let mut env = env_of(rt.alloc(), GOOD)?;
+    let kept = files_of(
+        rt.alloc(),
+        [
+            ("ip/127", b""),
+            ("servers/@", b"198.51.100.1\n"),
+            ("servers/com", b"198.51.100.2\n"),
+        ],
+    )?;
+    let mut files = QuietFiles::new(kept);
+    match load(rt.alloc(), &env, &mut files) {
+        Ok(config) => {
+            assert!(rt; config.size == 100 && !config.forward);
+            assert!(rt; config.ip == [127, 0, 0, 1] && config.ipsend == [0; 4]);
+            assert!(rt;
+                config.permit.allows([127, 0, 0, 1]) && !config.permit.allows([10, 0, 0, 1])
+            );
+            assert!(rt; config.zones.servers(&Name::root()).is_some());
+        }
+        Err(_) => panic!(rt; "no configuration"),
+    }
+    env.set(
+        String::from_str(rt.alloc(), "FORWARDONLY")?,
+        String::from_str(rt.alloc(), "")?,
+    );
+    match load(rt.alloc(), &env, &mut files) {
+        Ok(config) => assert!(rt; config.forward),
+        Err(_) => panic!(rt; "no configuration"),
+    }
+    Ok(())
+}
+
+#[test]
+fn faults_are_counted(rt: HostRuntime) -> Result<(), Fail> {
+    let env = env_of(rt.alloc(), GOOD)?;
+    for call in 1..5 {
+        let kept = files_of(
+            rt.alloc(),
+            [("servers/@", b"198.51.100.1"), ("ip/127", b""), OTHER],
+        )?;
+        let mut files = MemoryFiles::new(kept, vec![in rt.alloc(); call]?);
+        let wanted = if call < 4 { ("files", "") } else { ("ok", "") };
+        assert!(rt; told(&load(rt.alloc(), &env, &mut files)) == wanted);
+        assert!(rt; files.faults() == u64::from(call < 4));
+    }
+    Ok(())
+}
+
+#[test]
+fn real_folders_are_read(rt: HostRuntime) -> Result<(), Fail> {
+    let _ = fs::create_dir_all(&rt, "/tmp/dc_config_test/servers");
+    fs::write(&rt, "/tmp/dc_config_test/servers/@", b"198.51.100.1\n")?;
+    fs::write(
+        &rt,
+        "/tmp/dc_config_test/long",
+        vec![in rt.alloc(); 0u8; 1000001]?.as_slice(),
+    )?;
+    let alloc = rt.alloc();
+    let mut files = HostFiles::new(rt.clone()?);
+    match files.list(alloc, "/tmp/dc_config_test/servers") {
+        Listed::Names(names) => {
+            assert!(rt; names.len() == 1);
+            assert!(rt; names[0].text() == "@");
+        }
+        _ => panic!(rt; "no names"),
+    }
+    match files.read(alloc, "/tmp/dc_config_test/servers/@") {
+        FileRead::Bytes(bytes) => assert!(rt; bytes.as_slice() == b"198.51.100.1\n".as_slice()),
+        _ => panic!(rt; "no bytes"),
+    }
+    assert!(rt; matches!(files.list(alloc, "/tmp/dc_config_test/ip"), Listed::Absent));
+    assert!(rt;
+        matches!(
+            files.read(alloc, "/tmp/dc_config_test/servers/com"),
+            FileRead::Absent
+        )
+    );
+    assert!(rt; files.faults() == 0);
+    assert!(rt;
+        matches!(
+            files.read(alloc, "/tmp/dc_config_test/long"),
+            FileRead::Failed
+        )
+    );
+    assert!(rt;
+        matches!(
+            files.read(alloc, "/tmp/dc_config_test/servers"),
+            FileRead::Failed
+        )
+    );
+    assert!(rt; files.faults() == 2);
+    Ok(())
+}
