@@ -1,7 +1,7 @@
 -- The sixteen places, one after another.
-use Rattle.std.proofs.Common.{◌≡◌, ℕ, zero, suc, ◌+◌, ◌<◌, ◌≤◌, List, [], ◌∷◌, ◌++◌, length, take, drop, get_or, refl, ap, sym, ◌∙◌, arith, true, false, Bool, cond, ◌&&◌, add-one}
+use Rattle.std.proofs.Common.{◌≡◌, ℕ, zero, suc, ◌+◌, ◌<◌, List, [], ◌∷◌, ◌++◌, length, take, drop, get_or, refl, ap, arith, true, false, ◌&&◌, add-one}
 use Rattle.std.proofs.Math.ListN.{set}
-use Rattle.dc_model.specs.Places.{no_address, is_empty_place, add_address, all_empty}
+use Rattle.dc_model.specs.Places.{is_empty_place, add_address, all_empty}
 
 empty_next : (ps : List (List ℕ)) (i : ℕ) (d : List ℕ) → i < length ps → all_empty (drop i ps) ≡ (is_empty_place (get_or ps i d) && all_empty (drop (suc i) ps))
 empty_next [] i d h = absurd (omega arith)

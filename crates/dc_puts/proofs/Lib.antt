@@ -1,0 +1,9 @@
+pub mod Past
+pub mod Ascending
+pub mod Sorting
+pub mod Collecting
+pub mod Pairs
+pub mod Runs
+pub mod Gathering
+pub mod Telling
+pub mod Walking

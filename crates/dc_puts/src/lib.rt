@@ -1,0 +1,12 @@
+//! What a message leaves in the cache, and the lines that tell of it.
+#![tactic(auto)]
+
+mod gathered;
+mod group;
+mod index;
+mod order;
+mod record;
+mod told;
+mod walk;
+
+pub use walk::puts;
