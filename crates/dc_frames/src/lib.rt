@@ -6,6 +6,7 @@ mod place;
 mod query;
 
 pub use dc_marks::{Class, Found, class_of, classify, found};
+pub use dc_puts::puts;
 pub use frame::{Frame, Renamed};
 pub use query::Query;
 pub use std::alloc::AllocError as NoMemory;

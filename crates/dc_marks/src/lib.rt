@@ -4,6 +4,8 @@
 mod class;
 mod mark;
 mod row;
+#[cfg(test)]
+mod tests;
 mod walk;
 
 pub use class::{Class, class_of, classify};
