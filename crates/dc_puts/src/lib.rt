@@ -6,6 +6,8 @@ mod group;
 mod index;
 mod order;
 mod record;
+#[cfg(test)]
+mod tests;
 mod told;
 mod walk;
 
