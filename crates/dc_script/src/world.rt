@@ -1,5 +1,5 @@
 //! The recorded world: events from a script, actions to a text.
-ghost use Rattle.std.specs.Prelude.{◌≡◌, ◌+◌, ◌≤◌, ◌<◌, ◌^◌, ℕ, Bool, true, false, List, [], ◌∷◌, ◌++◌, ◌⊎◌, length, IfOk, Some, None, refl};
+ghost use Rattle.std.specs.Prelude.{◌≡◌, ◌+◌, ◌≤◌, ◌<◌, ◌^◌, ℕ, Bool, true, false, not, List, [], ◌∷◌, ◌++◌, ◌⊎◌, length, IfOk, Some, None, refl};
 ghost use Rattle.std.specs.declared.option.Option.{Option};
 ghost use Rattle.std.specs.Io.KnownBytes.{IsAtEnd};
 ghost use Rattle.std.proofs.Common.{ap};
@@ -50,6 +50,11 @@ impl<S: Source, K: Sink> Model for ScriptWorld<S, K> {
       last = a.last;
       kept = a.kept;
     } };
+
+    ghost use Rattle.std.specs.Prelude.{◌≡◌, ◌<◌, ◌⊎◌, true};
+
+    /// The world fails only where a read or a write has failed.
+    ghost invariant = { λ a. 0 < a.faults → (a.reader.failed ≡ true) ⊎ (a.writer.failed ≡ true) };
 }
 
 impl<S: Source, K: Sink> ScriptWorld<S, K> {
@@ -106,6 +111,15 @@ impl<S: Source, K: Sink> ScriptWorld<S, K> {
         self.writer.sink.faults()
     }
 
+    /// Whether no write has failed. Then the world has failed only where a read has.
+    pub fn wrote_all(&self) -> bool
+        ensures value { result ≡ not self.now.write_failed }
+        ensures cause { result ≡ true → 0 < self.now.faults → self.now.read_failed ≡ true }
+    {
+        let _ = &self.faults;
+        !self.writer.failed
+    }
+
     /// The sink.
     pub fn sink(&self) -> &K
         ensures { result.now ≡ self.now.sink }
@@ -123,6 +137,7 @@ impl<S: Source, K: Sink> ScriptWorld<S, K> {
         ensures stopped { self.old.read_failed ≡ false → self.new.read_failed ≡ true → SaysNoMore self.new.unread }
         ensures read { self.old.read_failed ≡ true → result ≡ Heard.Failed }
         ensures write { self.old.write_failed ≡ true → result ≡ Heard.Failed }
+        ensures marked { result ≡ Heard.Failed → (self.new.read_failed ≡ true) ⊎ (self.new.write_failed ≡ true) }
     {
         if self.writer.failed {
             return Heard::Failed;
@@ -142,6 +157,7 @@ impl<S: Source, K: Sink> ScriptWorld<S, K> {
 
     /// Keeps an answer, and counts it where it is a fault.
     fn note(&mut self, answer: Heard)
+        requires { answer ≡ Heard.Failed → (self.old.read_failed ≡ true) ⊎ (self.old.write_failed ≡ true) }
         ensures later { self.old.faults ≤ self.new.faults }
         ensures note { self.new ≡ record self.old { faults = faults_behind answer self.old.faults; last = Some answer } }
     {

@@ -39,6 +39,7 @@ impl<K: Sink> Writer<K> {
     pub(crate) fn write(&mut self, action: Action<'_>)
         ensures written { Written K.gained self.old.failed self.new.failed self.old.sink (action_text (action_of action.entry)) self.new.sink }
         ensures start { self.new.start ≡ self.old.start }
+        ensures stays { self.old.failed ≡ true → self.new.failed ≡ true }
     {
         if self.failed {
             return;
