@@ -13,7 +13,7 @@ pub Breaks-behind : (left : Option (List ℕ)) (found : Bool) (line rest : List 
     → (lines + 1 + 1 < 2 ^ 64 → k ≡ lines + 1 + 1) → Breaks left (unread true found line rest) lines k
 unfolding unread
 Breaks-behind left found line rest lines k some number =
-    record { ahead = 1; number = number; bad = inl (λ tail n. says-more n ((if found then line ++ (10 ∷ []) else []) ++ rest) tail some) }
+    record { ahead = 1; near = omega arith; number = number; bad = inl (λ tail n. says-more n ((if found then line ++ (10 ∷ []) else []) ++ rest) tail some) }
 
 -- Nothing stands behind it.
 pub IsOver-end : (line rest : List ℕ) → length rest ≡ 0 → IsOver (unread true false line rest)
@@ -27,6 +27,7 @@ pub Breaks-line : (left : Option (List ℕ)) (line rest : List ℕ) (lines k : �
 unfolding unread
 Breaks-line left line rest lines k one other none number = record {
   ahead = 0;
+  near = omega arith;
   number = number;
   bad = inl (λ tail n.
       let text : ((line ++ (10 ∷ [])) ++ rest) ++ tail ≡ line ++ (10 ∷ (rest ++ tail)) = ap (λ l. l ++ tail) (append_assoc line (10 ∷ []) rest) ∙ append_assoc line (10 ∷ rest) tail in
@@ -40,6 +41,7 @@ pub Breaks-long : (left : Option (List ℕ)) (line rest : List ℕ) (lines k : �
 unfolding unread
 Breaks-long left line rest lines k m e long one number = record {
   ahead = 0;
+  near = omega arith;
   number = number;
   bad = inl (λ tail n.
       let front : take m rest ≡ take m (rest ++ tail) = sym (take-append-le m rest tail (omega (arith, e, long))) in
@@ -55,6 +57,7 @@ pub Breaks-short : (left : Option (List ℕ)) (line rest : List ℕ) (lines k : 
 unfolding unread
 Breaks-short left line rest lines k one end number = record {
   ahead = 0;
+  near = omega arith;
   number = number;
   bad = inr (end, λ n. let same : n + 0 ≡ n = omega arith in says-none n rest one ∙ ap bad_at (sym same));
 }

@@ -32,6 +32,22 @@ pub record Recorded (S K : Type 0) : Type 0 where
   pub last : Option Answer
   pub kept : Option (List ℕ × List ℕ)
 
+-- A recorded world that opens with these bytes of a script, behind so many lines.
+abbrev pub opened : {S K : Type 0} → (S → ℕ) → (K → ℕ) → List ℕ → ℕ → S → K → Recorded S K
+opened source_faults sink_faults text lines source sink = record {
+  source = source;
+  unread = text;
+  lines = lines;
+  source_start = source_faults source;
+  read_failed = false;
+  sink = sink;
+  sink_start = sink_faults sink;
+  write_failed = false;
+  faults = 0;
+  last = None;
+  kept = None;
+}
+
 -- These actions were written, and nothing else changed.
 pub record Acted {S K : Type 0} (gained : K → List ℕ → K → Type 0) (old : Recorded S K) (actions : List Action) (new : Recorded S K) : Type 0 where
   pub written : Written gained old.write_failed new.write_failed old.sink (text_of actions) new.sink
@@ -58,6 +74,7 @@ SaysNoMore text = (n : ℕ) → (says n text).events ≡ []
 -- After so many lines, line k is outside the grammar: whatever follows, or since the source is at its end.
 pub record Breaks (left : Option (List ℕ)) (text : List ℕ) (lines k : ℕ) : Type 0 where
   pub ahead : ℕ
+  pub near : ahead ≤ 1
   pub number : lines + 1 + ahead < 2 ^ 64 → k ≡ lines + 1 + ahead
   pub bad : ((tail : List ℕ) (n : ℕ) → says n (text ++ tail) ≡ bad_at (n + ahead)) ⊎ (IsAtEnd left × ((n : ℕ) → says n text ≡ bad_at (n + ahead)))
 

@@ -18,5 +18,6 @@ pub use action::Action;
 pub use digits::{decode, digits_of};
 pub use events::{EventLine, event_line};
 pub use lines::{LineRest, NextLine};
+pub use reader::EventBuffer;
 pub use world::ScriptWorld;
 pub use write::write_action;

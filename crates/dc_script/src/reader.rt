@@ -50,35 +50,51 @@ fn zeros(alloc: Global, count: usize) -> Result<Vec<u8>, AllocError>
     vec![in alloc; 0u8; count]
 }
 
+/// Memory in which the bytes of one event are put together.
+#[derive(Drop)]
+pub struct EventBuffer {
+    bytes: Vec<u8>,
+    pub(crate) ghost room: { length bytes.items ≡ 65535 },
+}
+
+impl EventBuffer {
+    /// Memory for any event.
+    pub fn new(alloc: Global) -> Result<EventBuffer, AllocError> {
+        Ok(EventBuffer {
+            bytes: zeros(alloc, MOST_BYTES)?,
+        })
+    }
+}
+
 impl<S: Source> Reader<S> {
     /// A reader of what was taken already and of a source, behind so many lines.
     #[tactic(auto, unfolding(crate::specs::Read::unread))]
-    pub(crate) fn new(
-        alloc: Global,
-        rest: LineRest,
-        lines: u64,
-        source: S,
-    ) -> Result<Reader<S>, AllocError>
-    where
-        S: Drop,
-        ensures source { IfOk result (λ reader. reader.source ≡ source) }
-        ensures unread { IfOk result (λ reader. unread reader.ended reader.found reader.rest.line reader.rest.rest ≡ rest.rest) }
-        ensures lines { IfOk result (λ reader. reader.lines ≡ lines) }
-        ensures start { IfOk result (λ reader. reader.start ≡ S.faults source) }
-        ensures failed { IfOk result (λ reader. reader.failed ≡ false) }
+    pub(crate) fn new(buffer: EventBuffer, rest: LineRest, lines: u64, source: S) -> Reader<S>
+        ensures source { result.source ≡ source }
+        ensures unread { unread result.ended result.found result.rest.line result.rest.rest ≡ rest.rest }
+        ensures lines { result.lines ≡ lines }
+        ensures start { result.start ≡ S.faults source }
+        ensures failed { result.failed ≡ false }
     {
-        let bytes = zeros(alloc, MOST_BYTES)?;
         let start = source.faults();
-        Ok(Reader {
+        Reader {
             source,
             rest,
-            bytes,
+            bytes: buffer.bytes,
             lines,
             ended: false,
             found: false,
             start,
             failed: false,
-        })
+        }
+    }
+
+    /// Gives the source back.
+    pub(crate) fn into_source(self) -> S
+        ensures source { result ≡ self.source }
+        ensures cause { self.failed ≡ true → Rose self.start (S.faults self.source) }
+    {
+        self.source
     }
 
     /// Finds the next line, where none is found yet.

@@ -7,11 +7,11 @@ ghost use Rattle.dc_model.specs.Event.{Action as ModelAction, Event};
 ghost use Rattle.dc_event.specs.Answers.{heard_by, Warrants};
 ghost use Rattle.dc_event.specs.Causes.{Rose};
 ghost use Rattle.dc_script.specs.View.{action_of};
-ghost use Rattle.dc_script.specs.World.{Recorded, Acted, HandedOut, Wrote, IsOver, Breaks, Acted-none, Acted-both, Wrote-none, Wrote-both, Acted-wrote, Acted-faults, HandedOut-none, HandedOut-both, Acted-heard, Answered, faults_behind, SaysNoMore};
+ghost use Rattle.dc_script.specs.World.{Recorded, opened, Acted, HandedOut, Wrote, IsOver, Breaks, Acted-none, Acted-both, Wrote-none, Wrote-both, Acted-wrote, Acted-faults, HandedOut-none, HandedOut-both, Acted-heard, Answered, faults_behind, SaysNoMore};
 
 use crate::action::Action;
 use crate::lines::LineRest;
-use crate::reader::Reader;
+use crate::reader::{EventBuffer, Reader};
 use crate::writer::Writer;
 use dc_event::{Effects, Heard, Inbox, Sink, Source, World, WorldFailed};
 use std::alloc::{AllocError, Global};
@@ -69,28 +69,39 @@ impl<S: Source, K: Sink> ScriptWorld<S, K> {
     where
         S: Drop,
         K: Drop,
-        ensures { IfOk result (λ world. world ≡ record {
-          source = source;
-          unread = rest.rest;
-          lines = lines;
-          source_start = S.faults source;
-          read_failed = false;
-          sink = sink;
-          sink_start = K.faults sink;
-          write_failed = false;
-          faults = 0;
-          last = None;
-          kept = None;
-        }) }
+        ensures { IfOk result (λ world. world ≡ opened S.faults K.faults rest.rest lines source sink) }
     {
-        let reader = Reader::new(alloc, rest, lines, source)?;
-        Ok(ScriptWorld {
-            reader,
+        let buffer = EventBuffer::new(alloc)?;
+        Ok(ScriptWorld::in_buffer(buffer, rest, lines, source, sink))
+    }
+
+    /// The same in memory that was taken before. It can't fail, so a source and a sink that are lent come back by `into_parts`.
+    pub fn in_buffer(
+        buffer: EventBuffer,
+        rest: LineRest,
+        lines: u64,
+        source: S,
+        sink: K,
+    ) -> ScriptWorld<S, K>
+        ensures { result ≡ opened S.faults K.faults rest.rest lines source sink }
+    {
+        ScriptWorld {
+            reader: Reader::new(buffer, rest, lines, source),
             writer: Writer::new(sink),
             faults: 0,
             last: None,
             kept: None,
-        })
+        }
+    }
+
+    /// Gives source and sink back.
+    pub fn into_parts(self) -> (S, K)
+        ensures source { result.0 ≡ self.source }
+        ensures sink { result.1 ≡ self.sink }
+        ensures read { self.read_failed ≡ true → Rose self.source_start (S.faults self.source) }
+        ensures write { self.write_failed ≡ true → Rose self.sink_start (K.faults self.sink) }
+    {
+        (self.reader.into_source(), self.writer.into_sink())
     }
 
     /// How often the source has failed. It failed since the world was made where a read has failed.

@@ -35,6 +35,14 @@ impl<K: Sink> Writer<K> {
         }
     }
 
+    /// Gives the sink back.
+    pub(crate) fn into_sink(self) -> K
+        ensures sink { result ≡ self.sink }
+        ensures cause { self.failed ≡ true → Rose self.start (K.faults self.sink) }
+    {
+        self.sink
+    }
+
     /// Writes the text of an action, where no write has failed.
     pub(crate) fn write(&mut self, action: Action<'_>)
         ensures written { Written K.gained self.old.failed self.new.failed self.old.sink (action_text (action_of action.entry)) self.new.sink }
