@@ -1,0 +1,4 @@
+pub mod Pieces
+pub mod Heads
+pub mod Replays
+pub mod Worlds
