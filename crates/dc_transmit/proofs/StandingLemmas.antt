@@ -1,9 +1,9 @@
 -- How a transmission stands.
 use Rattle.std.proofs.Common.{◌≡◌, ℕ, option_map, Option, Some, None, IsSome, true≢false, refl, sym, ap, subst}
 use Rattle.dc_model.specs.Event.{Event}
-use Rattle.dc_model.specs.Transmission.{Attempt, Occasion, after_event}
+use Rattle.dc_model.specs.Transmission.{Attempt, Occasion, Progress, waiting, packet, failed, no_port, after_event}
 use Rattle.dc_transmit.specs.Attempts.{attempt_of, accepted_of, progress_of}
-use Rattle.dc_transmit.specs.Standing.{Standing, answer_of, closed, followed, stopped}
+use Rattle.dc_transmit.specs.Standing.{Standing, standing_at, answer_of, closed, followed, stopped}
 use Rattle.dc_transmit.specs.View.{standing_of}
 use Rattle.dc_transmit.specs.declared.attempt.Attempt.{Attempt as CodeAttempt}
 use Rattle.dc_transmit.specs.declared.progress.Progress.{Progress as CodeProgress}
@@ -48,3 +48,16 @@ stopped_is (Some a) = refl
 pub linked_asking : (attempt : Option Attempt) (link : Option ℕ) → link ≡ option_map (λ a. a.link) attempt → IsSome link → IsSome attempt
 linked_asking None link e h = subst (λ x. IsSome x) e h
 linked_asking (Some a) link e h = refl
+
+-- What the answers Waiting and Packet tell of how it stands.
+pub waiting_asking : (p : Progress) → Waiting ≡ answer_of p → IsSome (standing_at p).attempt
+waiting_asking (waiting a) e = refl
+waiting_asking (packet p) e = cc
+waiting_asking failed e = cc
+waiting_asking no_port e = cc
+
+pub packet_heard : (p : Progress) → Packet ≡ answer_of p → IsSome (standing_at p).accepted
+packet_heard (waiting a) e = cc
+packet_heard (packet p) e = refl
+packet_heard failed e = cc
+packet_heard no_port e = cc

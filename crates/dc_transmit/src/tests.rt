@@ -95,8 +95,8 @@ const REST: &[u8] = b"\x00\x01\x00\x00\x00\x00\x00\x00\x01a\x00\x00\x01\x00\x01"
 /// An event: its moment, kind, link, the last octet of the sender, and its bytes. And what follows it: the answer, the number of links
 /// used by then, how many of them over TCP, how often a query was written, the last link that was closed, and the last octet of the
 /// server that is asked.
-type Step = (
-    (u64, Kind, u64, u8, &'static [u8]),
+type Step<'a> = (
+    (u64, Kind, u64, u8, &'a [u8]),
     (Progress, u64, u64, u64, u64, u8),
 );
 
@@ -106,7 +106,7 @@ fn run<R: Abort>(
     transmit: &mut Transmit,
     inbox: &mut Inbox,
     recursive: bool,
-    steps: &[Step],
+    steps: &[Step<'_>],
 ) {
     let mut wire = Wire {
         udp: 0,
@@ -124,6 +124,8 @@ fn run<R: Abort>(
     transmit.start(
         &SERVERS, &name, 1, recursive, &[0; 17], 0, &mut links, &mut wire,
     );
+    let wait = if recursive { 3000 } else { 1000 };
+    assert_eq!(rt; transmit.deadline(), Some(wait));
     for ((now, kind, id, from, bytes), (answer, used, tcp, written, closed, server)) in steps {
         let event = Event {
             now: *now,
@@ -147,15 +149,26 @@ fn run<R: Abort>(
         assert_eq!(rt; wire.closed, *closed);
         assert_eq!(rt; wire.server, *server);
         assert_eq!(rt; wire.port, 1025);
+        if let Progress::Packet = progress {
+            assert!(rt; transmit.packet() == FINE);
+            assert_eq!(rt; transmit.server(), [10, 0, 0, 16]);
+            assert_eq!(rt; transmit.place(), 15);
+        }
     }
 }
+
+/// What a core holds can be sent to another thread.
+fn moves<T: Send>(_value: &T) {}
 
 #[test]
 fn transmissions(rt: HostRuntime) -> Result<(), Fail> {
     use Kind::{BindRefused, Datagram, LinkBytes, LinkDown, LinkUp, Tick};
     use Progress::{Failed, NoPort, Packet, Waiting};
     let mut transmit = Transmit::new(rt.alloc())?;
+    moves(&transmit);
     let mut inbox = Inbox::new(rt.alloc())?;
+    let mut long = [0; 513];
+    long[..19].copy_from_slice(FINE);
     // the waits of a recursive transmission: bad news in the third round is ignored, and after the last try it has failed
     run(
         &rt,
@@ -175,7 +188,7 @@ fn transmissions(rt: HostRuntime) -> Result<(), Fail> {
             ((73000, Tick, 0, 0, b""), (Failed, 6, 0, 0, 6, 16)),
         ],
     );
-    // a server that failed; packets from elsewhere, of another link, and to another question; the answer
+    // a server that failed; packets from elsewhere, of another link, to another question, and too long; the answer
     run(
         &rt,
         &mut transmit,
@@ -186,6 +199,7 @@ fn transmissions(rt: HostRuntime) -> Result<(), Fail> {
             ((2, Datagram, 2, 1, FINE), (Waiting, 2, 0, 0, 1, 16)),
             ((3, Datagram, 1, 16, FINE), (Waiting, 2, 0, 0, 1, 16)),
             ((4, Datagram, 2, 16, OTHER), (Waiting, 2, 0, 0, 1, 16)),
+            ((4, Datagram, 2, 16, &long), (Waiting, 2, 0, 0, 1, 16)),
             ((5, LinkUp, 2, 16, b""), (Waiting, 2, 0, 0, 1, 16)),
             ((6, LinkBytes, 2, 16, STREAM), (Waiting, 2, 0, 0, 1, 16)),
             ((7, Datagram, 2, 16, FINE), (Packet, 2, 0, 0, 2, 16)),
