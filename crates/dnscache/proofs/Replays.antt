@@ -40,9 +40,10 @@ done-append m (e ∷ xs) ys =
 -- The text of the first events stands at the front.
 pub run_front : (xs ys : List Event) → BeginsWith (text_of (first_run xs)) (text_of (first_run (xs ++ ys)))
 unfolding first_run
-run_front xs ys =
-    (text_of (first_done (first_after first_opening xs) ys),
-    ap (λ l. text_of (line line_starting ∷ l)) (done-append first_opening xs ys) ∙ text_of-append (line line_starting ∷ first_done first_opening xs) (first_done (first_after first_opening xs) ys))
+run_front xs ys = (
+  text_of (first_done (first_after first_opening xs) ys),
+  ap (λ l. text_of (line line_starting ∷ l)) (done-append first_opening xs ys) ∙ text_of-append (line line_starting ∷ first_done first_opening xs) (first_done (first_after first_opening xs) ys),
+)
 
 take_past : (xs ys : List Event) (n : ℕ) → take (length xs + n) (xs ++ ys) ≡ xs ++ take n ys
 take_past [] ys n = let none : 0 + n ≡ n = omega arith in ap (λ m. take m ys) none

@@ -66,7 +66,7 @@ pub written : {S K : Type 0} (gained : K → List ℕ → K → Type 0) (old new
     → (front : List ℕ) × gained sink front sink' × Front new.write_failed front (text_of (first_run events))
 written gained old new words first core events sink sink' w opening fine from to =
     let whole = subst (λ b. Written gained b new.write_failed old.sink (text_of (first_run events)) new.sink) fine
-        (subst (λ xs. Written gained old.write_failed new.write_failed old.sink (text_of xs) new.sink) (run_actions words first core events opening) w.written) in
+    (subst (λ xs. Written gained old.write_failed new.write_failed old.sink (text_of xs) new.sink) (run_actions words first core events opening) w.written) in
     let front = front_of gained new.write_failed old.sink new.sink (text_of (first_run events)) whole in
     (front.0, subst (λ k. gained sink front.0 k) (sym to) (subst (λ k. gained k front.0 new.sink) from front.1), front.2)
 
@@ -89,7 +89,7 @@ replayed took left gained old new answer limit before now words first core final
     let done = keeps answer new.write_failed front limit events (says (8 + length events) (new.unread ++ tail)) stop text in
     let read : says 8 (old.unread ++ (ran.heard.heard.bytes ++ tail)) ≡ after_events events (says (8 + length events) (new.unread ++ tail)) = ran.heard.heard.read tail 8 in
     let read' : says 8 (rest ++ (ran.heard.heard.bytes ++ tail)) ≡ after_events events (says (8 + length events) (new.unread ++ tail)) =
-        subst (λ r. says 8 (r ++ (ran.heard.heard.bytes ++ tail)) ≡ after_events events (says (8 + length events) (new.unread ++ tail))) unread read in
+    subst (λ r. says 8 (r ++ (ran.heard.heard.bytes ++ tail)) ≡ after_events events (says (8 + length events) (new.unread ++ tail))) unread read in
     let status' : status ≡ status_from answer (not new.write_failed) = how ∙ ap (status_from answer) all in
     subst (λ s. Keeps (said_outcome limit s) front status) (sym read')
     (subst (λ t. Keeps (said_outcome limit (after_events events (says (8 + length events) (new.unread ++ tail)))) front t) (sym status') done)

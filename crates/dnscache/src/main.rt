@@ -19,9 +19,8 @@ use crate::replay::replay_command;
 use crate::status::Status;
 use dc_event::{ReaderSource, Sink, Source, WriterSink};
 use std::alloc::Global;
-use std::env;
-use std::io;
 use std::process::ExitCode;
+use std::{env, io};
 
 /// Whether the words of a command are the one word `replay`.
 fn is_replay(words: &[String]) -> bool
@@ -79,7 +78,9 @@ fn main(rt: HostRuntime) -> ExitCode {
     let stderr = rt.stderr();
     let _told = match status {
         Status::Done | Status::Spent => Ok(()),
-        Status::Usage => eprintln!(stderr; "dnscache: fatal: usage: dnscache [replay | simulate SEED EVENTS]"),
+        Status::Usage => eprintln!(stderr;
+            "dnscache: fatal: usage: dnscache [replay | simulate SEED EVENTS]"
+        ),
         Status::Unbuilt(line) => eprintln!(stderr; "dnscache: fatal: line not built yet: {line}"),
         Status::ReadFault => eprintln!(stderr; "dnscache: fatal: unable to read input"),
         Status::WriteFault => eprintln!(stderr; "dnscache: fatal: unable to write output"),

@@ -86,12 +86,7 @@ fn over<S: Source, K: Sink>(memory: Memory, source: S, sink: K, turns: u64) -> (
 }
 
 /// The same over a source and a sink that are lent.
-fn over_lent<S: Source, K: Sink>(
-    memory: Memory,
-    source: &mut S,
-    sink: &mut K,
-    turns: u64,
-) -> Status
+fn over_lent<S: Source, K: Sink>(memory: Memory, source: &mut S, sink: &mut K, turns: u64) -> Status
     ensures known { result ≡ Status.Usage → ⊥ }
     ensures ready { result ≡ Status.NoMemory → ⊥ }
     ensures told { (bytes : List ℕ) × ((text : List ℕ) × S.took source.old bytes source.new × K.gained sink.old text sink.new

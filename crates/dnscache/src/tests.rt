@@ -16,7 +16,8 @@ begin
 ";
 
 /// A request for the address of localhost.
-const ASKED: &[u8] = b"at 1000000 request 127.0.0.1 4096 123401000001000000000000096c6f63616c686f73740000010001
+const ASKED: &[u8] =
+    b"at 1000000 request 127.0.0.1 4096 123401000001000000000000096c6f63616c686f73740000010001
 end
 ";
 
@@ -70,7 +71,10 @@ fn built_in_address(rt: HostRuntime) -> Result<(), Fail> {
 #[test]
 fn ends_of_scripts(rt: HostRuntime) -> Result<(), Fail> {
     for (events, wanted) in [
-        (&b"at 1000000 request 127.0.0.1 4096 1234"[..], Status::Unbuilt(8)),
+        (
+            &b"at 1000000 request 127.0.0.1 4096 1234"[..],
+            Status::Unbuilt(8),
+        ),
         (b"", Status::Unbuilt(8)),
         (b"at 5 tick\nend\nend\n", Status::Unbuilt(10)),
         (b"end\n", Status::Done),
@@ -98,7 +102,10 @@ fn requests_without_action(rt: HostRuntime) -> Result<(), Fail> {
     let asked = b"at 5 request 127.0.0.1 4096 12340100000100000000000001610000010001\nend\n";
     let (status, text) = Run::of(asked).play(rt.alloc())?;
     assert_eq!(rt; status, Status::Done);
-    assert_eq!(rt; &text[..], b"line starting\nline query 1 7f000001:1000:1234 1 a.\nline drop 1 unbuilt\n");
+    assert_eq!(rt;
+        &text[..],
+        b"line starting\nline query 1 7f000001:1000:1234 1 a.\nline drop 1 unbuilt\n"
+    );
     Ok(())
 }
 

@@ -4,15 +4,21 @@ use Rattle.dnscache.proofs.head.take_line.Goals as goal
 
 pub returns-then-is-clause-stands : goal.returns-then-is-clause-stands
 returns-then-is-clause-stands g c =
-    let found = c.in-Found.ensures.found in
-    (found.0, found.1.taken, stands_same c.args.lines.now.rest found.0 c.next_line.new.self.line c.next_line.new.self.rest c.args.wanted.now found.1.finds.0 found.1.finds.1
-    (ap (λ l. bytes_eq l c.args.wanted.now) (sym c.line.ensures) ∙ sym c.is.ensures ∙ c.if-is.true))
+    let found = c.in-Found.ensures.found in (
+      found.0,
+      found.1.taken,
+      stands_same c.args.lines.now.rest found.0 c.next_line.new.self.line c.next_line.new.self.rest c.args.wanted.now found.1.finds.0 found.1.finds.1
+          (ap (λ l. bytes_eq l c.args.wanted.now) (sym c.line.ensures) ∙ sym c.is.ensures ∙ c.if-is.true),
+    )
 
 pub returns-else-is-clause-stands : goal.returns-else-is-clause-stands
 returns-else-is-clause-stands g c =
-    let found = c.in-Found.ensures.found in
-    (found.0, found.1.taken, λ tail left. stands_other c.args.lines.now.rest found.0 c.next_line.new.self.line c.next_line.new.self.rest c.args.wanted.now found.1.finds.0 found.1.finds.1
-    (ap (λ l. bytes_eq l c.args.wanted.now) (sym c.line.ensures) ∙ sym c.is.ensures ∙ c.if-is.false) tail)
+    let found = c.in-Found.ensures.found in (
+      found.0,
+      found.1.taken,
+      λ tail left. stands_other c.args.lines.now.rest found.0 c.next_line.new.self.line c.next_line.new.self.rest c.args.wanted.now found.1.finds.0 found.1.finds.1
+          (ap (λ l. bytes_eq l c.args.wanted.now) (sym c.line.ensures) ∙ sym c.is.ensures ∙ c.if-is.false) tail,
+    )
 
 pub returns-in-TooLong-clause-stands : goal.returns-in-TooLong-clause-stands
 returns-in-TooLong-clause-stands g c =

@@ -17,6 +17,12 @@ returns-in-Unread-clause-told g c =
 pub returns-clause-told : goal.returns-clause-told
 returns-clause-told g c =
     let head = c.in-Whole.ensures.head in
-    let told = c.over_lent.ensures.told in
-    (head.0 ++ told.0, (told.1.0, g.met.S.Source.took_both _ _ _ _ _ head.1 told.1.1, told.1.2,
-    λ tail follows. behind_keeps (limit_of c.args.turns) c.over_lent.result told.1.0 head.0 c.read_first_head.new.lines.rest told.0 tail head.2 (told.1.3 tail follows)))
+    let told = c.over_lent.ensures.told in (
+      head.0 ++ told.0,
+      (
+        told.1.0,
+        g.met.S.Source.took_both _ _ _ _ _ head.1 told.1.1,
+        told.1.2,
+        λ tail follows. behind_keeps (limit_of c.args.turns) c.over_lent.result told.1.0 head.0 c.read_first_head.new.lines.rest told.0 tail head.2 (told.1.3 tail follows),
+      ),
+    )
