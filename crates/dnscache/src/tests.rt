@@ -29,6 +29,7 @@ line sent 1 43
 ";
 
 /// How a command is run: the events of its script, which calls of the source fail, the room of the sink, and the turns.
+#[derive(Clone, Copy)]
 struct Run {
     events: &'static [u8],
     failing: &'static [u64],
@@ -82,7 +83,7 @@ fn ends_of_scripts(rt: HostRuntime) -> Result<(), Fail> {
     ] {
         let (status, text) = Run::of(events).play(rt.alloc())?;
         assert_eq!(rt; status, wanted);
-        assert_eq!(rt; &text[..], b"line starting\n");
+        assert_eq!(rt; &text[..], b"line starting\n".as_slice());
     }
     Ok(())
 }
@@ -97,14 +98,14 @@ fn requests_without_action(rt: HostRuntime) -> Result<(), Fail> {
     ] {
         let (status, text) = Run::of(events).play(rt.alloc())?;
         assert_eq!(rt; status, Status::Done);
-        assert_eq!(rt; &text[..], b"line starting\n");
+        assert_eq!(rt; &text[..], b"line starting\n".as_slice());
     }
     let asked = b"at 5 request 127.0.0.1 4096 12340100000100000000000001610000010001\nend\n";
     let (status, text) = Run::of(asked).play(rt.alloc())?;
     assert_eq!(rt; status, Status::Done);
     assert_eq!(rt;
         &text[..],
-        b"line starting\nline query 1 7f000001:1000:1234 1 a.\nline drop 1 unbuilt\n"
+        b"line starting\nline query 1 7f000001:1000:1234 1 a.\nline drop 1 unbuilt\n".as_slice()
     );
     Ok(())
 }
@@ -123,7 +124,7 @@ fn faults_and_turns(rt: HostRuntime) -> Result<(), Fail> {
     };
     let (status, text) = narrow.play(rt.alloc())?;
     assert_eq!(rt; status, Status::WriteFault);
-    assert_eq!(rt; &text[..], b"line start");
+    assert_eq!(rt; &text[..], b"line start".as_slice());
     let short = Run {
         turns: 1,
         ..Run::of(ASKED)
