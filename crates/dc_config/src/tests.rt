@@ -8,8 +8,8 @@ use crate::{
 use dc_name::Name;
 use dc_rules::Config;
 use std::alloc::Global;
-use std::fs;
 use std::test::Fail;
+use std::{env, fs, process};
 
 /// An environment of three variables.
 fn env_of(alloc: Global, settings: [(&str, &str); 3]) -> Result<Env, NoMemory>
@@ -195,48 +195,43 @@ fn faults_are_counted(rt: HostRuntime) -> Result<(), Fail> {
     Ok(())
 }
 
+/// A path below a folder.
+fn below(alloc: Global, folder: &str, path: &str) -> Result<String, NoMemory> {
+    format!(in alloc; "{folder}/{path}")
+}
+
+/// The folder is a new one in the folder for what is temporary, and is removed where all was read.
 #[test]
 fn real_folders_are_read(rt: HostRuntime) -> Result<(), Fail> {
-    let _ = fs::create_dir_all(&rt, "/tmp/dc_config_test/servers");
-    fs::write(&rt, "/tmp/dc_config_test/servers/@", b"198.51.100.1\n")?;
-    fs::write(
-        &rt,
-        "/tmp/dc_config_test/long",
-        vec![in rt.alloc(); 0u8; 1000001]?.as_slice(),
-    )?;
     let alloc = rt.alloc();
+    let parent = env::temp_dir(&rt)?;
+    let name = format!(in alloc; "dc_config_test_{}", process::id(rt.process()))?;
+    let folder = below(alloc, parent.as_str(), name.as_str())?;
+    let servers = below(alloc, folder.as_str(), "servers")?;
+    let root = below(alloc, servers.as_str(), "@")?;
+    let long = below(alloc, folder.as_str(), "long")?;
+    fs::create_dir_all(&rt, servers.as_str())?;
+    fs::write(&rt, root.as_str(), b"198.51.100.1\n")?;
+    fs::write(&rt, long.as_str(), vec![in alloc; 0u8; 1000001]?.as_slice())?;
     let mut files = HostFiles::new(rt.clone()?);
-    match files.list(alloc, "/tmp/dc_config_test/servers") {
+    match files.list(alloc, servers.as_str()) {
         Listed::Names(names) => {
             assert!(rt; names.len() == 1);
             assert!(rt; names[0].text() == "@");
         }
         _ => panic!(rt; "no names"),
     }
-    match files.read(alloc, "/tmp/dc_config_test/servers/@") {
+    match files.read(alloc, root.as_str()) {
         FileRead::Bytes(bytes) => assert!(rt; bytes.as_slice() == b"198.51.100.1\n".as_slice()),
         _ => panic!(rt; "no bytes"),
     }
-    assert!(rt; matches!(files.list(alloc, "/tmp/dc_config_test/ip"), Listed::Absent));
-    assert!(rt;
-        matches!(
-            files.read(alloc, "/tmp/dc_config_test/servers/com"),
-            FileRead::Absent
-        )
-    );
+    let absent = below(alloc, servers.as_str(), "com")?;
+    assert!(rt; matches!(files.list(alloc, absent.as_str()), Listed::Absent));
+    assert!(rt; matches!(files.read(alloc, absent.as_str()), FileRead::Absent));
     assert!(rt; files.faults() == 0);
-    assert!(rt;
-        matches!(
-            files.read(alloc, "/tmp/dc_config_test/long"),
-            FileRead::Failed
-        )
-    );
-    assert!(rt;
-        matches!(
-            files.read(alloc, "/tmp/dc_config_test/servers"),
-            FileRead::Failed
-        )
-    );
+    assert!(rt; matches!(files.read(alloc, long.as_str()), FileRead::Failed));
+    assert!(rt; matches!(files.read(alloc, servers.as_str()), FileRead::Failed));
     assert!(rt; files.faults() == 2);
+    fs::remove_dir_all(&rt, folder.as_str())?;
     Ok(())
 }
