@@ -1,7 +1,7 @@
 -- The numbers of the first records of class IN.
-use Rattle.std.proofs.Common.{◌≡◌, ℕ, ◌+◌, ◌<◌, ◌≤◌, Bool, true, false, cond, List, [], ◌∷◌, ◌++◌, length, take, get_or, refl, sym, ◌∙◌, ap, arith}
+use Rattle.std.proofs.Common.{◌≡◌, ℕ, ◌+◌, ◌<◌, ◌≤◌, true, false, cond, [], ◌∷◌, ◌++◌, length, take, refl, ◌∙◌, ap, arith}
 use Rattle.std.proofs.lemmas.List.{take_more, take_all, length-take-le, append-nil}
-use Rattle.dc_model.specs.Message.{Record, Message, is_in}
+use Rattle.dc_model.specs.Message.{Message, is_in}
 use Rattle.dc_marks.specs.Places.{no_record, record_in}
 use Rattle.dc_puts.specs.Order.{places_from}
 use Rattle.dc_puts.proofs.Sorting.{places_more}

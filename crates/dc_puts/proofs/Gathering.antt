@@ -1,10 +1,7 @@
 -- Bytes that are gathered, as long as they fit.
-use Rattle.std.proofs.Common.{◌≡◌, ℕ, ◌+◌, ◌<◌, ◌≤◌, Bool, true, false, List, [], ◌∷◌, ◌++◌, length, refl, sym, ◌∙◌, ap, arith, length-append, append_assoc, subst}
+use Rattle.std.proofs.Common.{◌≡◌, ℕ, ◌+◌, ◌<◌, ◌≤◌, true, false, List, ◌++◌, length, sym, ◌∙◌, ap, arith, length-append, append_assoc, subst}
 use Rattle.std.specs.Prelude.{nat_le}
 use Rattle.std.proofs.lemmas.Bool.Decides.{nat_tests}
-use Rattle.dc_model.specs.Message.{kind_a, framed, u16, Body, bytes, host, mx, soa}
-use Rattle.dc_model.specs.Name.{wire}
-use Rattle.dc_model.specs.Bodies.{item_of}
 use Rattle.dc_puts.specs.declared.gathered.Gathered.{Gathered}
 use Rattle.dc_puts.specs.Held.{Holds}
 

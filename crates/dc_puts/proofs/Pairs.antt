@@ -1,5 +1,5 @@
 -- The pairs of records: the same ones, in whatever order the records stand.
-use Rattle.std.proofs.Common.{◌≡◌, ◌⊎◌, inl, inr, ℕ, ◌+◌, Bool, true, false, cond, ◌&&◌, ◌==◌, List, [], ◌∷◌, ◌++◌, length, map, drop, refl, sym, ◌∙◌, ap, arith, filter, subst, Option, Some, None, unwrap_or}
+use Rattle.std.proofs.Common.{◌≡◌, inl, inr, ℕ, List, [], ◌∷◌, ◌++◌, drop, refl, sym, ◌∙◌, ap, subst, Option, unwrap_or}
 use Rattle.std.specs.Prelude.{slice_index}
 use Rattle.std.specs.List.{AllByRecursion}
 use Rattle.std.specs.List.Sorted.{IsPermutation, IsStrictlySortedBy}
@@ -9,9 +9,9 @@ use Rattle.std.specs.declared.cmp.Ordering.TheVariants.{Less, Equal, Greater}
 use Rattle.std.proofs.lemmas.Cmp.{nat_list_cmp_total}
 use Rattle.std.proofs.lemmas.List.Elements.{All-from_recursion, recursion_from_All}
 use Rattle.std.proofs.lemmas.List.Sorted.{All-permutation, IsPermutation-sym}
-use Rattle.dc_model.specs.Name.{Name, IsName, lower, wire, wire_length, same, NameRead, name_at}
+use Rattle.dc_model.specs.Name.{Name, IsName, wire, wire_length, NameRead, name_at}
 use Rattle.dc_model.specs.Message.{Record}
-use Rattle.dc_model.specs.Puts.{Pair, pair_of, pair_cmp, pair_by, with_pair, pairs_of, HasRecord, HasPair}
+use Rattle.dc_model.specs.Puts.{Pair, pair_of, pair_cmp, pair_by, with_pair, pairs_of, HasPair}
 use Rattle.dc_model.proofs.NameLemmas.{name_at-wire}
 use Rattle.dc_model.proofs.DottedLemmas.{lower-IsName}
 use Rattle.dc_model.proofs.PutLemmas.{pairs_sorted, pairs_all}

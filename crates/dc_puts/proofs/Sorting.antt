@@ -1,7 +1,7 @@
 -- The records of a message, sorted: those of a pair stand together, and as they stand in the message.
-use Rattle.std.proofs.Common.{◌≡◌, ℕ, zero, suc, ◌+◌, ◌<◌, ◌≤◌, Bool, true, false, cond, ◌&&◌, ◌==◌, List, [], ◌∷◌, ◌++◌, length, map, get_or, refl, sym, ◌∙◌, ap, arith, filter, subst}
+use Rattle.std.proofs.Common.{◌≡◌, ℕ, suc, ◌+◌, ◌<◌, ◌≤◌, Bool, true, false, cond, ◌&&◌, ◌==◌, List, [], ◌∷◌, ◌++◌, length, map, get_or, refl, sym, ◌∙◌, ap, arith, filter, subst}
 use Rattle.std.specs.Prelude.{nat_lt}
-use Rattle.std.specs.List.{sum_by, AllByRecursion}
+use Rattle.std.specs.List.{AllByRecursion}
 use Rattle.std.specs.List.Sorted.{IsPermutation, IsSortedBy}
 use Rattle.std.specs.Cmp.{IsStrictWeakOrder}
 use Rattle.std.specs.Cmp.Lexicographic.{slice_cmp}
@@ -21,7 +21,7 @@ use Rattle.dc_model.specs.Puts.{Pair, pair_of, pair_cmp, group_of}
 use Rattle.dc_model.proofs.ReadLemmas.{both, name_eq-same}
 use Rattle.dc_marks.specs.Places.{no_record, record_in}
 use Rattle.dc_puts.specs.Order.{owner_key, place_key, comes_before, places_from, records_in}
-use Rattle.dc_puts.proofs.Ascending.{Ascends, same_lists, sum_moved, filter-map, all_weaker, Up, up_of, ascends_kept, ascends_filter}
+use Rattle.dc_puts.proofs.Ascending.{Ascends, same_lists, sum_moved, filter-map, Up, up_of, ascends_kept, ascends_filter}
 
 -- Comparing
 

@@ -1,7 +1,7 @@
 -- One record after another.
 use Rattle.std.proofs.Common.{◌≡◌, ℕ, zero, suc, ◌+◌, ◌-◌, ◌<◌, ◌≤◌, Bool, true, false, cond, ◌||◌, ◌&&◌, ◌==◌, List, [], ◌∷◌, ◌++◌, length, map, drop, refl, sym, ◌∙◌, ap, arith, filter, append_assoc, subst}
 use Rattle.std.specs.Prelude.{slice_index, nat_le, flat_map}
-use Rattle.std.specs.List.{AllByRecursion, list_any}
+use Rattle.std.specs.List.{list_any}
 use Rattle.std.proofs.lemmas.List.{append-nil}
 use Rattle.std.proofs.lemmas.Grind.{flat_map-append}
 use Rattle.std.proofs.lemmas.Bool.Decides.{nat_tests}
@@ -12,7 +12,7 @@ use Rattle.dc_model.specs.Cache.{Cache, put}
 use Rattle.dc_model.specs.Marks.{is_answer}
 use Rattle.dc_model.specs.Rules.{Rule, one, two, Zones, in_zone}
 use Rattle.dc_model.specs.Bodies.{item_of}
-use Rattle.dc_model.specs.Puts.{Put, all_put, put_if_short, key_of, Pair, Given, given_by, counted, is_stored, soa_is_stored, last_alone, first_ttl, rr_line, lines_given, puts_given}
+use Rattle.dc_model.specs.Puts.{all_put, put_if_short, key_of, Pair, Given, given_by, counted, is_stored, soa_is_stored, last_alone, first_ttl, rr_line, lines_given, puts_given}
 use Rattle.dc_puts.specs.declared.gathered.Gathered.{Gathered}
 use Rattle.dc_puts.specs.Held.{Holds}
 use Rattle.dc_puts.specs.Order.{records_in}

@@ -10,9 +10,9 @@ use Rattle.dc_packet.specs.Rows.{message_in}
 use Rattle.dc_marks.proofs.MarkLemmas.{message_in-is}
 use Rattle.std.proofs.lemmas.Bool.Decides.{nat_tests}
 use Rattle.std.proofs.lemmas.List.Elements.{All-from_recursion, recursion_from_All}
-use Rattle.std.proofs.lemmas.List.Sorted.{All-permutation, IsPermutation-map}
+use Rattle.std.proofs.lemmas.List.Sorted.{All-permutation}
 use Rattle.dc_model.specs.Name.{Name, IsName, lower, same}
-use Rattle.dc_model.specs.Message.{Record, Message, HasNames, IsRecord, in_records, message_of, is_in}
+use Rattle.dc_model.specs.Message.{Record, Message, HasNames, IsRecord, message_of, is_in}
 use Rattle.dc_model.specs.Rules.{Zones}
 use Rattle.dc_model.specs.Puts.{Pair, pair_of, pair_cmp, Given, given_of, lines_given, puts_given, all_put}
 use Rattle.dc_model.specs.Event.{line}

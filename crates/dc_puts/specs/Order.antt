@@ -5,7 +5,7 @@ use Rattle.std.specs.Ordering.{nat_cmp, is_lt}
 use Rattle.dc_model.specs.Name.{Name, lower, wire, wire_length}
 use Rattle.dc_model.specs.Message.{Record, Message, is_in}
 use Rattle.dc_model.specs.Rules.{Zones, in_zone}
-use Rattle.dc_model.specs.Puts.{Pair, pairs_of, group_of, Given, given_by}
+use Rattle.dc_model.specs.Puts.{pairs_of, group_of, Given, given_by}
 use Rattle.dc_marks.specs.Places.{record_in}
 
 -- By its type, by the length and the bytes of its owner's name in lower case, and by its number.

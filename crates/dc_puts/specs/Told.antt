@@ -1,7 +1,7 @@
 -- What is told and kept of the records of one pair.
 use Rattle.std.specs.List.{AllByRecursion}
 use Rattle.dc_marks.specs.Places.{record_in}
-use Rattle.std.specs.Prelude.{◌<◌, length, ℕ, Bool, false, true, ◌&&◌, ◌||◌, if◌then◌else◌, ◌==◌, List, [], ◌∷◌, ◌++◌, map, filter, flat_map}
+use Rattle.std.specs.Prelude.{◌<◌, length, ℕ, Bool, false, true, ◌||◌, if◌then◌else◌, ◌==◌, List, [], ◌∷◌, map, filter, flat_map}
 use Rattle.dc_model.specs.Name.{Name}
 use Rattle.dc_model.specs.Message.{kind_a, kind_cname, kind_soa, kind_axfr, kind_any, Record, Message, HasNames}
 use Rattle.dc_model.specs.Rules.{Zones, Rule, one, two, in_zone}

@@ -1,9 +1,9 @@
-use Rattle.std.proofs.Common.{◌≡◌, ℕ, Bool, true, false, List, [], ap, sym, ◌∙◌, subst}
+use Rattle.std.proofs.Common.{List, [], ap, sym, ◌∙◌, subst}
 use Rattle.dc_model.specs.Message.{Record}
 use Rattle.dc_rules.specs.Refusals.{rule_of}
 use Rattle.dc_puts.specs.Order.{records_in}
 use Rattle.dc_puts.specs.Told.{looked_at, lines_for, items_for, keeps_kind}
-use Rattle.dc_puts.proofs.Telling.{looked_records, looked_sound, kept_yes, kept_no}
+use Rattle.dc_puts.proofs.Telling.{looked_records, kept_yes, kept_no}
 use Rattle.dc_puts.proofs.group.give.Goals as goal
 
 pub returns-then-keeps-clause-acts : goal.returns-then-keeps-clause-acts

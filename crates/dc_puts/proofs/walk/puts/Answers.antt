@@ -1,4 +1,4 @@
-use Rattle.std.proofs.Common.{◌≡◌, ℕ, List, ap, sym, ◌∙◌, subst}
+use Rattle.std.proofs.Common.{ℕ, List, ap, sym, ◌∙◌, subst}
 use Rattle.dc_model.specs.Event.{Action}
 use Rattle.dc_model.specs.Puts.{all_put, puts_given}
 use Rattle.dc_puts.specs.Order.{records_in, given_from}

@@ -1,4 +1,4 @@
-use Rattle.std.proofs.Common.{ℕ, ◌+◌, List, arith, sym, ◌∙◌}
+use Rattle.std.proofs.Common.{arith, sym, ◌∙◌}
 use Rattle.std.specs.Prelude.{slice_index}
 use Rattle.dc_model.specs.Message.{Record}
 use Rattle.dc_marks.specs.Places.{record_in}

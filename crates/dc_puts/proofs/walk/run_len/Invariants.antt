@@ -1,4 +1,4 @@
-use Rattle.std.proofs.Common.{◌≡◌, ◌≤◌, ◌-◌, length, take}
+use Rattle.std.proofs.Common.{◌≤◌, ◌-◌, length, take}
 use Rattle.dc_puts.specs.Order.{records_in}
 use Rattle.dc_puts.specs.Group.{first_pair}
 use Rattle.dc_puts.proofs.Runs.{AreOf}
