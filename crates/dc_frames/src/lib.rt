@@ -4,6 +4,8 @@
 mod frame;
 mod place;
 mod query;
+#[cfg(test)]
+mod tests;
 
 pub use dc_marks::{Class, Found, class_of, classify, found};
 pub use dc_puts::puts;

@@ -64,8 +64,7 @@ impl Query {
         ensures { query_of self.new ≡ machine.begun (query_of self.old) }
     {
         self.frames.clear();
-        let name = self.request.name.copy();
-        self.frames.push(Frame::new(name));
+        self.frames.push(Frame::new(self.request.name.copy()));
     }
 
     /// Counts a turn.
