@@ -1,10 +1,10 @@
 -- What a reader's state says of the script's next line.
-use Rattle.std.proofs.Common.{◌≡◌, ℕ, ◌+◌, ◌<◌, ◌≤◌, ◌^◌, Bool, true, false, bytes_eq, if◌then◌else◌, List, [], ◌∷◌, ◌++◌, length, take, codes, Option, Some, None, refl, sym, ◌∙◌, ap, arith, append_assoc, length-append, inl, inr, subst, add-zero}
+use Rattle.std.proofs.Common.{◌≡◌, ℕ, ◌+◌, ◌<◌, ◌^◌, Bool, true, false, bytes_eq, if◌then◌else◌, List, [], ◌∷◌, ◌++◌, length, take, codes, Option, Some, None, sym, ◌∙◌, ap, arith, append_assoc, length-append, inl, inr, subst, add-zero}
 use Rattle.std.proofs.lemmas.List.{append-nil, take-append-le}
 use Rattle.std.specs.Io.KnownBytes.{IsAtEnd}
 use Rattle.dc_model.specs.Event.{Event}
 use Rattle.dc_script.specs.Script.{bad_at, most_line}
-use Rattle.dc_script.specs.Read.{after_events, says, line_event, end_text, unread, Read, Read-same, ReadOff}
+use Rattle.dc_script.specs.Read.{says, line_event, unread, Read-same, ReadOff}
 use Rattle.dc_script.specs.World.{IsOver, Breaks, SaysNoMore}
 use Rattle.dc_script.proofs.ReadLemmas.{HasNoFeed, says-event, says-bad, says-none, says-end, says-more, says-long, unread-more, unread-found, unread-end, says-behind}
 

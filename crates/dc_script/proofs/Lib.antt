@@ -9,3 +9,12 @@ pub mod ReadLemmas
 pub mod BreakLemmas
 pub mod StateLemmas
 pub mod TellLemmas
+pub mod Placing
+pub mod HeadLemmas
+pub mod Spelling
+pub mod EventLemmas
+pub mod ActionLemmas
+pub mod HeadTextLemmas
+pub mod LineBack
+pub mod HeadBack
+pub mod ScriptBack

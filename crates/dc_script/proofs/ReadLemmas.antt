@@ -1,14 +1,13 @@
 -- What lines say that are read off a script.
-use Rattle.std.proofs.Common.{◌≡◌, ◌≢◌, ℕ, zero, suc, ◌+◌, ◌<◌, ◌≤◌, Bool, true, false, bytes_eq, eqb, ltb, leb, cond, if◌then◌else◌, List, [], ◌∷◌, ◌++◌, length, take, drop, slice_index, codes, Option, Some, None, refl, sym, ◌∙◌, ap, ◌⊎◌, inl, inr, arith, append_assoc, subst, add-one}
-use Rattle.std.specs.List.{slice_split, onto_first}
+use Rattle.std.proofs.Common.{◌≡◌, ◌≢◌, ℕ, zero, suc, ◌+◌, ◌<◌, Bool, true, false, bytes_eq, eqb, leb, cond, if◌then◌else◌, List, [], ◌∷◌, ◌++◌, length, take, slice_index, codes, Some, None, refl, sym, ◌∙◌, ap, ◌⊎◌, inl, inr, arith, append_assoc, subst}
+use Rattle.std.specs.List.{onto_first}
 use Rattle.std.proofs.lemmas.List.Splits.{slice_split-cons_yes, slice_split-cons_no}
 use Rattle.std.proofs.lemmas.Bool.{eqb-true, cases_lt}
 use Rattle.std.proofs.lemmas.Bool.Decides.{nat_tests}
 use Rattle.std.proofs.lemmas.Slice.Eq.{bytes_eq-Decides}
-use Rattle.std.proofs.lemmas.Grind.{common_steps}
 use Rattle.dc_model.specs.Event.{Event}
-use Rattle.dc_script.specs.Script.{Said, Words, bad_at, said_at_end, with_event, said_by_line, said_from, pieces_of, most_line}
-use Rattle.dc_script.specs.Read.{after_events, says, line_event, end_text, unread, Read, Read-same, ReadOff}
+use Rattle.dc_script.specs.Script.{bad_at, said_at_end, said_by_line, said_from, pieces_of, most_line}
+use Rattle.dc_script.specs.Read.{after_events, says, line_event, end_text, unread}
 
 -- No line feed stands in the text.
 abbrev pub HasNoFeed : List ℕ → Type 0
@@ -91,7 +90,7 @@ says-behind n c cs =
     first ∙ ap (said_at_end n) (sym p.1.1) ∙ behind_by (eqb c 10) n c (pieces_of cs) (has_piece cs)
 
 -- A text has no line feed, or begins with a line.
-abbrev Cut : List ℕ → Type 0
+abbrev pub Cut : List ℕ → Type 0
 Cut text = HasNoFeed text ⊎ ((line : List ℕ) × ((rest : List ℕ) × ((text ≡ line ++ (10 ∷ rest)) × HasNoFeed line)))
 
 no_feed_more : (c : ℕ) (cs : List ℕ) → c ≢ 10 → HasNoFeed cs → HasNoFeed (c ∷ cs)
@@ -102,7 +101,7 @@ cut_more : (c : ℕ) (cs : List ℕ) → c ≢ 10 → Cut cs → Cut (c ∷ cs)
 cut_more c cs h (inl none) = inl (no_feed_more c cs h none)
 cut_more c cs h (inr p) = inr (c ∷ p.0, (p.1.0, (ap (λ l. c ∷ l) p.1.1.0, no_feed_more c p.0 h p.1.1.1)))
 
-cut : (text : List ℕ) → Cut text
+pub cut : (text : List ℕ) → Cut text
 cut [] = inl (λ k lt. absurd (omega arith))
 cut (c ∷ cs) = elim (eqb c 10) as (λ b. eqb c 10 ≡ b → Cut (c ∷ cs)) [
   | true ↦ λ e. inr ([], (cs, (ap (λ d. d ∷ cs) (eqb-true c 10 e), λ k lt. absurd (omega arith))))
@@ -115,7 +114,7 @@ at_feed [] rest (suc m) lt h = h 0 (omega arith) refl
 at_feed (c ∷ cs) rest zero lt h = absurd (omega arith)
 at_feed (c ∷ cs) rest (suc m) lt h = at_feed cs rest m (omega arith) (rest_no c (take m (cs ++ (10 ∷ rest))) h)
 
-at_feed_of : (text line rest : List ℕ) (m : ℕ) → text ≡ line ++ (10 ∷ rest) → length line < m → HasNoFeed (take m text) → ⊥
+pub at_feed_of : (text line rest : List ℕ) (m : ℕ) → text ≡ line ++ (10 ∷ rest) → length line < m → HasNoFeed (take m text) → ⊥
 at_feed_of text line rest m e lt h = let P : List ℕ → Type 0 = λ t. HasNoFeed (take m t) in at_feed line rest m lt (subst P e h)
 
 too_long : (line : List ℕ) → most_line < length line → line_event line ≡ None

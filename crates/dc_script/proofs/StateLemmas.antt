@@ -1,9 +1,8 @@
 -- A reader's states, with what is known of their flags.
 use Rattle.std.proofs.Common.{◌≡◌, ℕ, ◌+◌, ◌<◌, ◌≤◌, ◌^◌, Bool, true, false, bytes_eq, cond, leb, if◌then◌else◌, List, [], ◌∷◌, ◌++◌, length, take, codes, Option, Some, None, refl, sym, ◌∙◌, ap, arith, length-append, subst}
 use Rattle.std.proofs.lemmas.Bool.Decides.{nat_tests}
-use Rattle.std.proofs.lemmas.Grind.{common_steps}
 use Rattle.std.specs.Io.KnownBytes.{IsAtEnd}
-use Rattle.dc_model.specs.Event.{Event, IsEvent}
+use Rattle.dc_model.specs.Event.{Event}
 use Rattle.dc_event.specs.Answers.{heard_by}
 use Rattle.dc_event.specs.Causes.{Rose}
 use Rattle.dc_event.specs.declared.answers.Heard.{Heard}

@@ -1,10 +1,10 @@
 -- What is told of a recorded world.
-use Rattle.std.proofs.Common.{◌≡◌, ℕ, ◌+◌, Bool, true, false, cond, bytes_eq, if◌then◌else◌, List, [], ◌∷◌, ◌++◌, length, codes, Option, Some, None, refl, sym, ◌∙◌, ap, subst}
+use Rattle.std.proofs.Common.{◌≡◌, ℕ, ◌+◌, Bool, true, false, cond, bytes_eq, List, [], ◌∷◌, ◌++◌, length, codes, Option, Some, None, refl, sym, ◌∙◌, ap}
 use Rattle.std.proofs.lemmas.List.{append_cancel_right}
 use Rattle.dc_model.specs.Event.{Event}
 use Rattle.dc_event.specs.Told.{Tells}
-use Rattle.dc_script.specs.Script.{Said, Words, said_at_end, with_event, said_by_line, said_from, pieces_of}
-use Rattle.dc_script.specs.Read.{line_event, says, after_events, ReadOff}
+use Rattle.dc_script.specs.Script.{Said, Words, said_at_end, with_event, said_from, pieces_of}
+use Rattle.dc_script.specs.Read.{line_event, says}
 use Rattle.dc_script.specs.World.{Recorded, HandedOut}
 
 at_end : (m n : ℕ) (pieces : Words) → (said_at_end m pieces).events ≡ (said_at_end n pieces).events

@@ -6,3 +6,8 @@ pub mod Lines
 pub mod Read
 pub mod Written
 pub mod World
+pub mod Heading
+pub mod Head
+pub mod Heads
+pub mod EventText
+pub mod HeadText

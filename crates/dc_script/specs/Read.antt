@@ -1,6 +1,6 @@
 -- What was read of a script between two moments.
-use Rattle.std.specs.Prelude.{◌≡◌, ℕ, ◌+◌, ◌^◌, ◌<◌, Bool, true, false, if◌then◌else◌, nat_le, List, [], ◌∷◌, ◌++◌, length, codes, Option, Some, None, refl}
-use Rattle.std.proofs.Common.{sym, ◌∙◌, ap, append_assoc, length-append, add_assoc, add-zero, arith}
+use Rattle.std.specs.Prelude.{◌≡◌, ℕ, ◌+◌, ◌^◌, ◌<◌, Bool, if◌then◌else◌, nat_le, List, [], ◌∷◌, ◌++◌, length, codes, Option, None, refl}
+use Rattle.std.proofs.Common.{sym, ◌∙◌, ap, append_assoc, length-append, add-zero, arith}
 use Rattle.std.proofs.lemmas.List.{append-nil}
 use Rattle.dc_model.specs.Event.{Event}
 use Rattle.dc_script.specs.Script.{Said, said_from, event_of_line, pieces_of, most_line}

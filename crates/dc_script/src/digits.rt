@@ -14,7 +14,7 @@ fn is_lower(byte: u8) -> bool
 }
 
 /// Whether all of these are digits.
-fn all_digits(text: &[u8]) -> bool
+pub(crate) fn all_digits(text: &[u8]) -> bool
     ensures { result ≡ list_all is_lower_digit text.now }
 {
     for byte in text {

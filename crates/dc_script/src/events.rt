@@ -17,7 +17,7 @@ use dc_text::{Parts, address, number};
 const MOMENTS: u64 = 1 << 62;
 
 /// Whether two texts are equal.
-fn is(word: &[u8], text: &[u8]) -> bool
+pub(crate) fn is(word: &[u8], text: &[u8]) -> bool
     ensures { result ≡ bytes_eq word.now text.now }
 {
     word == text

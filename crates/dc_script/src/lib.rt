@@ -4,9 +4,14 @@
 pub mod action;
 mod digits;
 pub mod events;
+pub mod head;
+#[cfg(test)]
+mod head_tests;
+mod heading;
 pub mod laws;
 pub mod lines;
 mod reader;
+mod setup;
 #[cfg(test)]
 mod tests;
 mod text;
@@ -17,7 +22,9 @@ mod writer;
 pub use action::Action;
 pub use digits::{decode, digits_of};
 pub use events::{EventLine, event_line};
+pub use head::{Script, ScriptError, read_head};
 pub use lines::{LineRest, NextLine};
 pub use reader::EventBuffer;
+pub use std::alloc::AllocError as NoMemory;
 pub use world::ScriptWorld;
 pub use write::write_action;

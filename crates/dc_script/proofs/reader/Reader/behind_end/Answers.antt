@@ -1,4 +1,4 @@
-use Rattle.std.proofs.Common.{◌≡◌, ◌<◌, length, refl, ◌∙◌, arith}
+use Rattle.std.proofs.Common.{◌∙◌, arith}
 use Rattle.dc_script.proofs.StateLemmas.{Breaks-next, Breaks-rest, IsOver-here}
 use Rattle.dc_script.proofs.reader.Reader.behind_end.Goals as goal
 

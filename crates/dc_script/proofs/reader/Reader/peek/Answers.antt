@@ -1,4 +1,3 @@
-use Rattle.std.proofs.Common.{refl}
 use Rattle.dc_script.proofs.BreakLemmas.{ReadOff-found, ReadOff-more}
 use Rattle.dc_script.proofs.StateLemmas.{long-rest, one-rest, one_same, SaysNoMore-here}
 use Rattle.dc_script.proofs.reader.Reader.peek.Goals as goal

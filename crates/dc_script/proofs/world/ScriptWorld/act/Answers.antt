@@ -1,4 +1,3 @@
-use Rattle.std.proofs.Common.{refl}
 use Rattle.dc_script.specs.World.{Acted-one}
 use Rattle.dc_script.proofs.world.ScriptWorld.act.Goals as goal
 

@@ -1,4 +1,3 @@
-use Rattle.std.proofs.Common.{refl}
 use Rattle.dc_script.specs.Read.{unread}
 use Rattle.dc_script.specs.World.{SaysNoMore}
 use Rattle.dc_script.proofs.StateLemmas.{stopped_now}

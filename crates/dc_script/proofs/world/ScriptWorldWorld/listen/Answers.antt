@@ -1,4 +1,3 @@
-use Rattle.std.proofs.Common.{refl}
 use Rattle.dc_script.specs.World.{Wrote-same}
 use Rattle.dc_script.proofs.world.ScriptWorldWorld.listen.Goals as goal
 

@@ -1,4 +1,3 @@
-use Rattle.std.proofs.Common.{◌≡◌, ap, arith, ◌∙◌}
 use Rattle.dc_script.specs.World.{Wrote-next, next_same, next_stopped}
 use Rattle.dc_script.proofs.world.ScriptWorldWorld.next.Goals as goal
 
