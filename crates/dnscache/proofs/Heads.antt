@@ -1,7 +1,7 @@
 -- The head, line by line.
-use Rattle.std.proofs.Common.{◌≡◌, ℕ, ◌+◌, ◌<◌, List, [], ◌∷◌, ◌++◌, length, drop, slice_index_or, refl, ap, sym, ◌∙◌, arith, append_assoc, add-one, drop-cons}
+use Rattle.std.proofs.Common.{◌≡◌, ℕ, ◌+◌, ◌<◌, List, [], ◌∷◌, ◌++◌, length, drop, slice_index_or, ap, sym, ◌∙◌, arith, append_assoc, add-one, drop-cons}
 use Rattle.dc_script.specs.Script.{Words, pieces_of}
-use Rattle.dnscache.specs.Head.{HeadRead, behind, other, head_from, head_lines, head_of}
+use Rattle.dnscache.specs.Head.{behind, other, head_from, head_lines, head_of}
 use Rattle.dnscache.proofs.Pieces.{head_same, pieces_count}
 
 -- So many lines stand: whatever follows, the head goes on with the other lines.

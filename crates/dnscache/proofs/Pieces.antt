@@ -1,14 +1,14 @@
 -- The lines at the front of bytes, whatever follows them.
-use Rattle.std.proofs.Common.{◌≡◌, ◌≢◌, ℕ, zero, suc, ◌+◌, ◌<◌, ◌≤◌, Bool, true, false, cond, eqb, List, [], ◌∷◌, ◌++◌, length, take, slice_index, refl, ap, sym, ◌∙◌, arith, Option, Some, None, append_assoc, length-append, subst, bytes_eq, inl, inr}
+use Rattle.std.proofs.Common.{◌≡◌, ◌≢◌, ℕ, zero, suc, ◌+◌, ◌<◌, ◌≤◌, Bool, true, false, cond, eqb, List, [], ◌∷◌, ◌++◌, length, take, refl, ap, sym, ◌∙◌, arith, Option, Some, None, append_assoc, length-append, subst, bytes_eq, inl, inr}
 use Rattle.std.specs.Io.KnownBytes.{IsAtEnd}
-use Rattle.std.specs.List.{slice_split, onto_first}
+use Rattle.std.specs.List.{onto_first}
 use Rattle.std.proofs.lemmas.List.{append-nil, take-append-le}
 use Rattle.std.proofs.lemmas.Slice.Eq.{bytes_eq-Decides}
 use Rattle.std.proofs.lemmas.List.Splits.{slice_split-cons_yes, slice_split-cons_no}
 use Rattle.std.proofs.lemmas.Bool.{eqb-true}
 use Rattle.dc_script.specs.Script.{Words, pieces_of}
 use Rattle.dc_script.specs.Lines.{IsOneLine}
-use Rattle.dnscache.specs.Head.{HeadRead, behind, other, head_from, MayFollow}
+use Rattle.dnscache.specs.Head.{other, head_from, MayFollow}
 
 not_true : (b : Bool) → (b ≡ true → ⊥) → b ≡ false
 not_true true k = absurd (k refl)

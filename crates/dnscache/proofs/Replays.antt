@@ -1,9 +1,8 @@
 -- The actions of the machine over the events of a script.
-use Rattle.std.proofs.Common.{◌≡◌, ℕ, zero, suc, ◌+◌, ◌-◌, ◌<◌, ◌≤◌, ◌^◌, Bool, true, false, cond, not, leb, List, [], ◌∷◌, ◌++◌, length, take, refl, ap, sym, ◌∙◌, arith, Option, Some, None, append_assoc, length-append, subst, inl, inr}
-use Rattle.std.specs.Io.KnownBytes.{IsAtEnd}
-use Rattle.std.proofs.lemmas.List.{append-nil, take-append-le, take_all}
+use Rattle.std.proofs.Common.{◌≡◌, ℕ, suc, ◌+◌, ◌-◌, ◌<◌, ◌≤◌, Bool, true, false, not, leb, List, [], ◌∷◌, ◌++◌, length, take, refl, ap, sym, ◌∙◌, arith, Option, Some, None, append_assoc, length-append, subst}
+use Rattle.std.proofs.lemmas.List.{append-nil}
 use Rattle.std.proofs.lemmas.Bool.{le-leb, lt-leb}
-use Rattle.dc_model.specs.Event.{Event, Action, line}
+use Rattle.dc_model.specs.Event.{Event, line}
 use Rattle.dc_model.specs.Line.{line_starting}
 use Rattle.dc_machine.specs.First.{First, first_step, first_after, first_done, first_run, first_opening}
 use Rattle.dc_event.specs.Automaton.{actions_of}
@@ -15,7 +14,7 @@ use Rattle.dc_script.specs.Text.{text_of}
 use Rattle.dc_script.specs.Written.{Written, text_of-append}
 use Rattle.dc_serve.specs.declared.Served.{Served}
 use Rattle.dc_serve.specs.declared.Served.TheVariants as served
-use Rattle.dnscache.specs.declared.status.Status.TheVariants.{Done, Spent, Unbuilt, ReadFault, WriteFault}
+use Rattle.dnscache.specs.declared.status.Status.TheVariants.{Spent}
 use Rattle.dnscache.specs.Replay.{Outcome, said_outcome, Keeps, status_from}
 
 actions_done : (words : ℕ → List ℕ) (i : ℕ) (s : Counted) (es : List Event) → actions_of first_machine words i s es ≡ first_done s.counts es

@@ -1,13 +1,13 @@
 -- What serving the machine in a recorded world comes to.
-use Rattle.std.proofs.Common.{◌≡◌, ℕ, ◌+◌, ◌<◌, ◌≤◌, ◌^◌, Bool, true, false, not, List, [], ◌∷◌, ◌++◌, length, refl, ap, sym, ◌∙◌, arith, Option, Some, None, subst, inl, inr, ◌⊎◌, append_assoc}
+use Rattle.std.proofs.Common.{◌≡◌, ℕ, ◌+◌, ◌≤◌, ◌^◌, Bool, true, false, not, List, [], ◌++◌, length, refl, ap, sym, ◌∙◌, arith, Option, subst, inl, inr, ◌⊎◌, append_assoc}
 use Rattle.std.specs.Io.KnownBytes.{IsAtEnd}
 use Rattle.std.proofs.lemmas.List.{append-nil}
 use Rattle.dc_model.specs.Event.{Event}
 use Rattle.dc_machine.specs.First.{first_run, first_opening}
 use Rattle.dc_core.specs.Counted.{Counted, first_machine}
 use Rattle.dc_event.specs.Automaton.{actions_of}
-use Rattle.dc_script.specs.Script.{Said, bad_at, pieces_of}
-use Rattle.dc_script.specs.Read.{ReadOff, after_events, says}
+use Rattle.dc_script.specs.Script.{bad_at, pieces_of}
+use Rattle.dc_script.specs.Read.{after_events, says}
 use Rattle.dc_script.specs.Text.{text_of}
 use Rattle.dc_script.specs.World.{Recorded, HandedOut, Wrote, IsOver, Breaks}
 use Rattle.dc_script.specs.Written.{Written}

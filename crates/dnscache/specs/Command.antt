@@ -1,5 +1,5 @@
 -- The words of a command.
-use Rattle.std.specs.Prelude.{ℕ, Bool, false, bytes_eq, List, [], ◌∷◌, codes, string_bytes, String}
+use Rattle.std.specs.Prelude.{Bool, false, bytes_eq, List, [], ◌∷◌, codes, string_bytes, String}
 use Rattle.std.specs.declared.alloc.Global.{Global}
 
 -- The one word `replay`.

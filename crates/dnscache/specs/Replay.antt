@@ -1,10 +1,10 @@
 -- What replaying a script comes to.
-use Rattle.std.specs.Prelude.{◌≡◌, ℕ, ◌^◌, Bool, true, false, min, nat_le, if◌then◌else◌, List, [], ◌∷◌, ◌++◌, length, take}
+use Rattle.std.specs.Prelude.{◌≡◌, ℕ, ◌^◌, Bool, true, false, min, nat_le, if◌then◌else◌, List, [], length, take}
 use Rattle.std.specs.declared.option.Option.{Option}
 use Rattle.std.specs.declared.option.Option.TheVariants.{None, Some}
 use Rattle.dc_event.specs.Told.{BeginsWith}
 use Rattle.dc_machine.specs.First.{first_run}
-use Rattle.dc_script.specs.Script.{Said, Words, said_from}
+use Rattle.dc_script.specs.Script.{Said, said_from}
 use Rattle.dc_script.specs.Read.{line_event}
 use Rattle.dc_script.specs.Text.{text_of}
 use Rattle.dc_serve.specs.declared.Served.{Served}

@@ -1,4 +1,4 @@
-use Rattle.std.proofs.Common.{◌≡◌, ◌<◌, ◌++◌, [], ap, sym, ◌∙◌, arith, refl}
+use Rattle.std.proofs.Common.{◌≡◌, ◌++◌, [], ap, sym, ◌∙◌, arith}
 use Rattle.dc_script.specs.Script.{pieces_of}
 use Rattle.dnscache.specs.Head.{head_from, head_lines}
 use Rattle.dnscache.proofs.Heads.{one_more, another, head_done}

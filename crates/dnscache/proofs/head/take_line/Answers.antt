@@ -1,5 +1,5 @@
-use Rattle.std.proofs.Common.{◌≡◌, List, ℕ, [], ◌++◌, bytes_eq, refl, sym, ap, ◌∙◌, Some}
-use Rattle.dnscache.proofs.Pieces.{line_found, stands_same, stands_other, stands_long, stands_ended, none_follows}
+use Rattle.std.proofs.Common.{◌++◌, bytes_eq, refl, sym, ap, ◌∙◌}
+use Rattle.dnscache.proofs.Pieces.{stands_same, stands_other, stands_long, stands_ended, none_follows}
 use Rattle.dnscache.proofs.head.take_line.Goals as goal
 
 pub returns-then-is-clause-stands : goal.returns-then-is-clause-stands

@@ -1,4 +1,4 @@
-use Rattle.std.proofs.Common.{◌≡◌, ◌≤◌, ◌^◌, ap, sym, arith, subst, min}
+use Rattle.std.proofs.Common.{◌≡◌, ◌≤◌, ◌^◌, ap, sym, arith, subst}
 use Rattle.dc_model.specs.Draws.{draws_of}
 use Rattle.dnscache.specs.Replay.{limit_of}
 use Rattle.dnscache.proofs.Worlds.{replayed, written}

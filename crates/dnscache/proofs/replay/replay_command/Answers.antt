@@ -1,4 +1,4 @@
-use Rattle.std.proofs.Common.{◌≡◌, ◌++◌, []}
+use Rattle.std.proofs.Common.{◌++◌, []}
 use Rattle.dnscache.specs.Replay.{limit_of, outcome}
 use Rattle.dnscache.specs.Head.{head_of}
 use Rattle.dnscache.proofs.Worlds.{other_keeps, nothing_keeps, behind_keeps}

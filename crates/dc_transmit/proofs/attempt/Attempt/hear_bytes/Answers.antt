@@ -1,4 +1,4 @@
-use Rattle.std.proofs.Common.{◌∙◌, sym, ap}
+use Rattle.std.proofs.Common.{◌∙◌, sym}
 use Rattle.dc_transmit.specs.Attempts.{attempt_of, occasion}
 use Rattle.dc_transmit.specs.Gathered.{message_of}
 use Rattle.dc_transmit.proofs.CaseLemmas.{bytes_unheard, bytes_part, bytes_good, bytes_bad}
