@@ -1,5 +1,5 @@
 -- An answer that is written in steps, the length of its data last.
-use Rattle.std.proofs.Common.{◌≡◌, ℕ, ◌+◌, ◌-◌, List, ◌++◌, length, take, drop, sym, ◌∙◌, ap, arith}
+use Rattle.std.proofs.Common.{◌≡◌, ℕ, ◌+◌, ◌-◌, ◌/◌, ◌%◌, List, ◌++◌, length, take, drop, refl, sym, ◌∙◌, ap, arith}
 use Rattle.std.proofs.lemmas.List.{append_assoc, length-append}
 use Rattle.std.proofs.Math.Seq.{take-append-add, drop-append-add}
 use Rattle.dc_model.specs.Message.{class_in, u16, u32}
@@ -35,15 +35,22 @@ answer-end front owner body after kind ttl at len e f g =
     ∙ append_assoc front owner (ten kind ttl (length body.bytes) ++ body.bytes)
     ∙ ap (λ v. front ++ v) (sym (append_assoc owner (ten kind ttl (length body.bytes)) body.bytes)))
 
+-- Two bytes of a number are those of its last 16 bits.
+u16-cut : (n : ℕ) → u16 (n % 65536) ≡ u16 n
+u16-cut n =
+    let high : n % 65536 / 256 % 256 ≡ n / 256 % 256 = omega arith in
+    let low : n % 65536 % 256 ≡ n % 256 = omega arith in
+    rw (high, low) refl
+
 -- The steps of an answer: its owner, ten bytes, its data, and the length of the data.
-pub answer-steps : (old : Written) (a : Answer) (named filled bodied after : Written) (at len : ℕ)
+pub answer-steps : (old : Written) (a : Answer) (named filled bodied after : Written) (at len cut : ℕ)
     → named ≡ with_more old (name_written a.owner) → at ≡ length named.bytes + 8
     → filled ≡ record { bytes = named.bytes ++ ten a.kind a.ttl 0; table = named.table }
-    → bodied ≡ with_more filled (body_written a.body) → len ≡ length bodied.bytes - at - 2
-    → after ≡ record { bytes = take at bodied.bytes ++ (u16 len ++ drop (at + 2) bodied.bytes); table = bodied.table }
+    → bodied ≡ with_more filled (body_written a.body) → len ≡ length bodied.bytes - at - 2 → cut ≡ len % 65536
+    → after ≡ record { bytes = take at bodied.bytes ++ (u16 cut ++ drop (at + 2) bodied.bytes); table = bodied.table }
     → after ≡ with_more old (answer_written a)
 unfolding answer_written
-answer-steps old a named filled bodied after at len e1 e2 e3 e4 e5 e6 =
+answer-steps old a named filled bodied after at len cut e1 e2 e3 e4 e5 e7 e6 =
     let place : ℕ = 12 + length old.bytes in
     let owner : Written = name_written a.owner place old.table in
     let xs : List ℕ = old.bytes ++ owner.bytes in
@@ -60,4 +67,5 @@ answer-steps old a named filled bodied after at len e1 e2 e3 e4 e5 e6 =
     let size : length bodied.bytes ≡ length ((xs ++ empty) ++ body.bytes) = ap (λ (w : Written). length w.bytes) bodied_is in
     let len_is : len ≡ length body.bytes = omega arith in
     answer-end old.bytes owner.bytes body after a.kind a.ttl at len at_is len_is
-    (e6 ∙ ap (λ (w : Written). record { bytes = take at w.bytes ++ (u16 len ++ drop (at + 2) w.bytes); table = w.table }) bodied_is)
+    (e6 ∙ ap (λ (bs : List ℕ). record { bytes = take at bodied.bytes ++ (bs ++ drop (at + 2) bodied.bytes); table = bodied.table }) (ap u16 e7 ∙ u16-cut len)
+    ∙ ap (λ (w : Written). record { bytes = take at w.bytes ++ (u16 len ++ drop (at + 2) w.bytes); table = w.table }) bodied_is)

@@ -61,7 +61,12 @@ body-least : (b : Body) (at : ℕ) (t : List Suffix) → plain_length b ≤ leng
 body-least (bytes bs) at t = omega arith
 body-least (host n) at t = omega arith
 body-least (mx preference n) at t = omega arith
-body-least (soa n m numbers) at t = omega arith
+body-least (soa n m numbers) at t =
+    let first : Written = name_written n at t in
+    let second : Written = name_written m (at + length first.bytes) first.table in
+    let l1 = length-append first.bytes (second.bytes ++ numbers) in
+    let l2 = length-append second.bytes numbers in
+    omega (arith, l1, l2)
 
 -- An answer has ten bytes at least, and those of its data.
 pub answer-least : (a : Answer) (at : ℕ) (t : List Suffix) → 10 + plain_length a.body ≤ length (answer_written a at t).bytes

@@ -11,7 +11,7 @@ abbrev pub body_of : Body → model.Body
 body_of (Bytes bs) = model.bytes bs.now
 body_of (Host n) = model.host n.now
 body_of (Mx preference n) = model.mx preference n.now
-body_of (Soa n m numbers) = model.soa n.now m.now numbers
+body_of (Soa n m numbers) = model.soa n.now m.now numbers.now
 
 -- An answer.
 abbrev pub answer_of : Name → ℕ → ℕ → Body → Answer

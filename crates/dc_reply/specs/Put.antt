@@ -16,4 +16,4 @@ abbrev pub plain_length : Body → ℕ
 plain_length (bytes bs) = length bs
 plain_length (host n) = 0
 plain_length (mx preference n) = 0
-plain_length (soa n m numbers) = 0
+plain_length (soa n m numbers) = length numbers

@@ -15,7 +15,7 @@ pub enum Body<'a> {
     /// A preference and a mail exchange.
     Mx(u16, &'a Name),
     /// The primary server and the mailbox of a zone, and five numbers of four bytes each.
-    Soa(&'a Name, &'a Name, [u8; 20]),
+    Soa(&'a Name, &'a Name, &'a [u8]),
 }
 
 impl Body<'_> {
@@ -24,7 +24,7 @@ impl Body<'_> {
         ensures { result ≡ plain_length (body_of self.now) }
     {
         match self {
-            Body::Bytes(bytes) => bytes.len(),
+            Body::Bytes(bytes) | Body::Soa(_, _, bytes) => bytes.len(),
             _ => 0,
         }
     }

@@ -83,7 +83,7 @@ fn pointers(rt: HostRuntime) -> Result<(), Fail> {
             &Name::from_dotted(b"Com")?,
             6,
             1,
-            Body::Soa(&server, &web, [9; 20])
+            Body::Soa(&server, &web, &[9; 20])
         )
     );
     let message =

@@ -18,6 +18,9 @@ const POINTER: u16 = 0xc000;
 /// The class of every answer, IN.
 const CLASS_IN: u16 = 1;
 
+/// How many numbers two bytes can say. Data with more bytes is part of no message.
+const NUMBERS: usize = 65536;
+
 /// How many bytes stand between an answer's owner and its data's length.
 const BEFORE_LENGTH: usize = 8;
 
@@ -182,7 +185,7 @@ impl Writer {
             Body::Soa(first, second, numbers) => {
                 self.name(first);
                 self.name(second);
-                self.put(&numbers);
+                self.put(numbers);
             }
         }
     }
@@ -212,7 +215,7 @@ impl Writer {
         self.fixed(kind, ttl);
         self.body(body);
         let len = self.len() - at - 2;
-        self.set_u16(at, len as u16);
+        self.set_u16(at, (len % NUMBERS) as u16);
     }
 
     /// Writes a frame and a header in front.
