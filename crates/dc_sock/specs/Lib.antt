@@ -1,0 +1,9 @@
+pub mod Ready
+pub mod Place
+pub mod Moment
+pub mod Log
+pub mod Address
+pub mod Found
+pub mod Numbers
+pub mod Links
+pub mod World
