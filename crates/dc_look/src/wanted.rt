@@ -1,0 +1,44 @@
+//! Which types are wanted.
+ghost use Rattle.std.specs.Prelude.{◌≡◌, ◌==◌, [], ◌∷◌};
+ghost use Rattle.std.specs.List.{list_any};
+ghost use Rattle.dc_model.specs.Message as message;
+ghost use Rattle.dc_model.specs.Marks as marks;
+ghost use Rattle.dc_rules.specs.Refusals.{rule_of};
+ghost use Rattle.dc_machine.specs.Turn as machine;
+
+use dc_rules::Rule;
+
+const KIND_SOA: u16 = 6;
+
+const KIND_ANY: u16 = 255;
+
+/// The types for which there are rules of their own: ANY, AXFR, CNAME, NS, PTR, A and MX.
+const RULED: [u16; 7] = [255, 252, 5, 2, 12, 1, 15];
+
+/// Whether a type is wanted: it is the one asked for, or ANY is asked for.
+pub(crate) fn is_wanted(wanted: u16, kind: u16) -> bool
+    ensures { result ≡ marks.is_wanted wanted kind }
+{
+    kind == wanted || wanted == KIND_ANY
+}
+
+/// Whether there is a rule for a type, under both rules of a configuration.
+fn is_ruled(kind: u16) -> bool
+    ensures { result ≡ list_any (λ k. k == kind) (message.kind_any ∷ message.kind_axfr ∷ message.kind_cname ∷ message.kind_ns ∷ message.kind_ptr ∷ message.kind_a ∷ message.kind_mx ∷ []) }
+{
+    RULED.iter().any(|ruled| *ruled == kind)
+}
+
+/// Whether a type is one that no other rule looks for in the cache.
+#[tactic(auto, unfolding(dc_machine::specs::Turn::is_other))]
+pub(crate) fn is_other(rule: Rule, kind: u16) -> bool
+    ensures { result ≡ machine.is_other (rule_of rule) kind }
+{
+    if is_ruled(kind) {
+        return false;
+    }
+    match rule {
+        Rule::One => true,
+        Rule::Two => kind != KIND_SOA,
+    }
+}
