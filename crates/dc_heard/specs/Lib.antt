@@ -1,0 +1,4 @@
+pub mod Accepted
+pub mod Said
+pub mod Taken
+pub mod Quiet
