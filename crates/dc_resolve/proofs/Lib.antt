@@ -1,0 +1,7 @@
+pub mod ShortLemmas
+pub mod PlaceLemmas
+pub mod RowLemmas
+pub mod TurnLemmas
+pub mod NextLemmas
+pub mod EventLemmas
+pub mod TestLemmas
