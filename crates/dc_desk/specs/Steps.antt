@@ -49,7 +49,7 @@ Follows (End Replied) d f = (r : Reply) × (f ≡ end (turn.replied r)) × (d �
 Follows (End (Dropped c)) d f = f ≡ end (turn.dropped (cause_of c))
 
 -- A row that asks nobody was taken for a query at a desk, between two states of the outside: what it did, the query and the cache
--- that it leaves, and what follows. What the turn goes by stays, and so does the number of links.
+-- that it leaves, and what follows. What the turn goes by stays, and so do the number of links and the counts.
 pub record TookRow {S O : Type 0} (acted : O → List Action → O → Type 0) (cache : S → Cache) (row : Setting → State → Row) (moment : Moment)
     (before : O) (q : Query) (d : Desk S) (after : O) (q' : Query) (d' : Desk S) (step : Step) : Type 0 where
   pub acts : acted before (row (setting_at d moment) (at cache q d)).actions after
@@ -57,4 +57,5 @@ pub record TookRow {S O : Type 0} (acted : O → List Action → O → Type 0) (
   pub store : cache d'.store ≡ all_put (row (setting_at d moment) (at cache q d)).puts (second moment.time) (cache d.store)
   pub links : d'.link ≡ d.link
   pub setting : setting_at d' moment ≡ setting_at d moment
+  pub counts : d'.counts ≡ d.counts
   pub next : Follows step d'.reply (row (setting_at d moment) (at cache q d)).following

@@ -19,14 +19,15 @@ use Rattle.dc_heard.specs.Quiet.{Leads}
 pub took_as : {S O : Type 0} (acted : O → List Action → O → Type 0) (cache : S → Cache) (row row' : Setting → State → Row) (moment : Moment)
     (a c : O) (q q1 q2 : Query) (d d1 d2 : Desk S) (step : Step)
     → row (setting_at d moment) (at cache q d) ≡ row' (setting_at d1 moment) (at cache q1 d1)
-    → cache d1.store ≡ cache d.store → d1.link ≡ d.link → setting_at d1 moment ≡ setting_at d moment
+    → cache d1.store ≡ cache d.store → d1.link ≡ d.link → setting_at d1 moment ≡ setting_at d moment → d1.counts ≡ d.counts
     → TookRow acted cache row' moment a q1 d1 c q2 d2 step → TookRow acted cache row moment a q d c q2 d2 step
-took_as acted cache row row' moment a c q q1 q2 d d1 d2 step e store links setting t = record {
+took_as acted cache row row' moment a c q q1 q2 d d1 d2 step e store links setting counts t = record {
   acts = subst (λ (r : Row). acted a r.actions c) (sym e) t.acts;
   query = t.query ∙ ap (λ (r : Row). r.query) (sym e);
   store = t.store ∙ ap (λ (r : Row). all_put r.puts (second moment.time) (cache d1.store)) (sym e) ∙ ap (λ x. all_put (row (setting_at d moment) (at cache q d)).puts (second moment.time) x) store;
   links = t.links ∙ links;
   setting = t.setting ∙ setting;
+  counts = t.counts ∙ counts;
   next = subst (λ (r : Row). Follows step d2.reply r.following) (sym e) t.next;
 }
 
@@ -53,6 +54,7 @@ took_behind acted cache row row' moment a b c q q2 d d1 d2 step puts actions bot
           ∙ ap (λ (x : Row). all_put x.puts (second moment.time) (cache d.store)) (sym own);
       links = t.links ∙ links;
       setting = t.setting ∙ setting;
+      counts = t.counts ∙ ap (λ x. x.counts) rest;
       next = subst (λ (x : Row). Follows step d2.reply x.following) (sym own) t.next;
     }
 
@@ -60,9 +62,9 @@ took_behind acted cache row row' moment a b c q q2 d d1 d2 step puts actions bot
 pub took_leads : {S O : Type 0} (acted : O → List Action → O → Type 0) (cache : S → Cache) (row : Setting → State → Row) (r : Row) (moment : Moment)
     (a c : O) (q q2 : Query) (d d2 : Desk S) (step : Step) (puts : List Put) (actions : List Action)
     → row (setting_at d moment) (at cache q d) ≡ first puts actions r
-    → acted a actions c → cache d2.store ≡ all_put puts (second moment.time) (cache d.store) → d2.link ≡ d.link → setting_at d2 moment ≡ setting_at d moment
+    → acted a actions c → cache d2.store ≡ all_put puts (second moment.time) (cache d.store) → d2.link ≡ d.link → setting_at d2 moment ≡ setting_at d moment → d2.counts ≡ d.counts
     → Leads r (query_of q2) d2.reply step → TookRow acted cache row moment a q d c q2 d2 step
-took_leads acted cache row r moment a c q q2 d d2 step puts actions e acts store links setting l =
+took_leads acted cache row r moment a c q q2 d d2 step puts actions e acts store links setting counts l =
     let none : puts ++ r.puts ≡ puts = ap (λ x. puts ++ x) l.puts ∙ append-nil puts in
     let still : actions ++ r.actions ≡ actions = ap (λ x. actions ++ x) l.acts ∙ append-nil actions in
     record {
@@ -71,5 +73,6 @@ took_leads acted cache row r moment a c q q2 d d2 step puts actions e acts store
       store = store ∙ ap (λ x. all_put x (second moment.time) (cache d.store)) (sym none) ∙ ap (λ (x : Row). all_put x.puts (second moment.time) (cache d.store)) (sym e);
       links = links;
       setting = setting;
+      counts = counts;
       next = subst (λ (x : Row). Follows step d2.reply x.following) (sym e) l.next;
     }

@@ -31,6 +31,7 @@ took_as {acted = acted} {cache = cache} {moment = moment} {before = before} {aft
   store = t.store ∙ ap (λ (x : Row). all_put x.puts (second moment.time) (cache d.store)) (sym e);
   links = t.links;
   setting = t.setting;
+  counts = t.counts;
   next = subst (λ (x : Row). Follows step d'.reply x.following) (sym e) t.next;
 }
 
@@ -46,6 +47,7 @@ took_goes {acted = acted} {cache = cache} {moment = moment} {before = before} {a
   store = ap (λ (x : Row). all_put x.puts (second moment.time) (cache d.store)) (sym e);
   links = refl;
   setting = refl;
+  counts = refl;
   next = ap (λ (x : Row). x.following) e;
 }
 
@@ -61,6 +63,7 @@ took_ends {acted = acted} {cache = cache} {moment = moment} {before = before} {a
   store = ap (λ (x : Row). all_put x.puts (second moment.time) (cache d.store)) (sym e);
   links = refl;
   setting = refl;
+  counts = refl;
   next = ap (λ (x : Row). x.following) e;
 }
 
@@ -95,5 +98,6 @@ took_reply {acted = acted} {cache = cache} {moment = moment} {before = before} {
       store = rw (e, l.puts) (ap (λ (x : Desk _). cache x.store) k);
       links = ap (λ (x : Desk _). x.link) k;
       setting = ap (λ (x : Desk _). setting_at x moment) k;
+      counts = ap (λ (x : Desk _). x.counts) k;
       next = rw e (f d'.reply r actions (at cache q d) m.fits m.draft);
     }

@@ -25,14 +25,15 @@ pub row_as : {S O : Type 0} (acted : O → List Action → O → Type 0) (cache 
     (a : O) (q : Query) (d : Desk S) (b : O) (q' : Query) (d' : Desk S) (step : Step) (r : Row) →
     row (setting_at d moment) (at cache q d) ≡ r →
     acted a r.actions b → query_of q' ≡ r.query → cache d'.store ≡ all_put r.puts (second moment.time) (cache d.store) → d'.link ≡ d.link →
-    setting_at d' moment ≡ setting_at d moment → Follows step d'.reply r.following →
+    setting_at d' moment ≡ setting_at d moment → d'.counts ≡ d.counts → Follows step d'.reply r.following →
     TookRow acted cache row moment a q d b q' d' step
-row_as acted cache row moment a q d b q' d' step r e acts query store links setting next = record {
+row_as acted cache row moment a q d b q' d' step r e acts query store links setting counts next = record {
   acts = subst (λ (x : Row). acted a x.actions b) (sym e) acts;
   query = query ∙ sym (ap (λ (x : Row). x.query) e);
   store = store ∙ sym (ap (λ (x : Row). all_put x.puts (second moment.time) (cache d.store)) e);
   links = links;
   setting = setting;
+  counts = counts;
   next = subst (λ (x : Row). Follows step d'.reply x.following) (sym e) next;
 }
 
@@ -53,15 +54,15 @@ pub reply_as : {S O : Type 0} (acted : O → List Action → O → Type 0) (cach
     (a : O) (q : Query) (d : Desk S) (b : O) (q' : Query) (d' : Desk S) (step : Step) (r : Reply) (actions : List Action) (s : State) →
     row (setting_at d moment) (at cache q d) ≡ reply_row r actions s →
     acted a actions b → query_of q' ≡ s.query → cache d'.store ≡ cache d.store → d'.link ≡ d.link →
-    setting_at d' moment ≡ setting_at d moment → Follows step d'.reply (reply_row r actions s).following →
+    setting_at d' moment ≡ setting_at d moment → d'.counts ≡ d.counts → Follows step d'.reply (reply_row r actions s).following →
     TookRow acted cache row moment a q d b q' d' step
 unfolding reply_row all_put
-reply_as acted cache row moment a q d b q' d' step r actions s e acts query store links setting next =
+reply_as acted cache row moment a q d b q' d' step r actions s e acts query store links setting counts next =
     row_as acted cache row moment a q d b q' d' step (reply_row r actions s) e
     (subst (λ x. acted a x b) (sym (either_actions (fits r) _ _ actions refl refl)) acts)
     (query ∙ sym (either_query (fits r) _ _ s.query refl refl))
     (store ∙ sym (ap (λ x. all_put x (second moment.time) (cache d.store)) (either_puts (fits r) _ _ [] refl refl)))
-    links setting next
+    links setting counts next
 
 -- The rows, case by case.
 pub begin_axfr : (s : State) → s.query.request.kind ≡ kind_axfr → begin_row s ≡ ends s.query [] (dropped axfr)

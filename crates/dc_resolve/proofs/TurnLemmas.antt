@@ -67,11 +67,12 @@ pub step_as : {S O : Type 0} (acted : O → List Action → O → Type 0) (cache
     (a : O) (q : Query) (d : Desk S) (b : O) (q' : Query) (d' : Desk S) (w : Standing) (step : Step) (r : Row) →
     row (setting_at d moment) p (at cache q d) ≡ r →
     acted a r.actions b → query_of q' ≡ r.query → cache d'.store ≡ all_put r.puts (second moment.time) (cache d.store) → d'.link ≡ links_after r.following d.link →
-    setting_at d' moment ≡ setting_at d moment → Comes step d'.reply w r.following →
+    setting_at d' moment ≡ setting_at d moment → d'.counts ≡ d.counts → Comes step d'.reply w r.following →
     TookStep acted cache p moment a q d b q' d' w step
-step_as acted cache p moment a q d b q' d' w step r e acts query store links setting next = record {
+step_as acted cache p moment a q d b q' d' w step r e acts query store links setting counts next = record {
   took = took_as acted cache p moment a q d b q' d' r e acts query store links;
   setting = setting;
+  counts = counts;
   next = subst (λ (x : Row). Comes step d'.reply w x.following) (sym e) next;
 }
 
@@ -89,6 +90,7 @@ pub took_step : {S O : Type 0} (acted : O → List Action → O → Type 0) (cac
 took_step acted cache p moment a q d b q' d' w step h i = record {
   took = took acted cache p moment a q d b q' d' step h;
   setting = h.setting;
+  counts = h.counts;
   next = comes step d'.reply w _ h.next i;
 }
 
@@ -101,7 +103,7 @@ step_same acted cache p moment a q r d b q' d' w step e h =
     Took acted a b (setting_at d moment) p s (at cache q' d') (row (setting_at d moment) p s).following in
     let N : machine.Query → Type 0 = λ x. let s : State = record { query = x; cache = cache d.store; links = d.link } in
     Comes step d'.reply w (row (setting_at d moment) p s).following in
-    record { took = subst P e h.took; setting = h.setting; next = subst N e h.next }
+    record { took = subst P e h.took; setting = h.setting; counts = h.counts; next = subst N e h.next }
 
 rows_by : (g : Setting) (n k : ℕ) (p : Point) (s : State) → n ≡ suc k → rows g n p s ≡ onward (row g p s).following (row g p s) (state_after g s (row g p s)) (rows g k)
 unfolding rows

@@ -31,9 +31,10 @@ abbrev pub Comes : Step → Draft → Standing → Following → Type 0
 Comes (Go p) d w f = (f ≡ go (point_of p)) × IsNone w.attempt
 Comes (End answer) d w f = (o : turn.Outcome) × (f ≡ end o) × Ends answer d w o
 
--- A row was taken for a query at a desk, between two states of the outside. What the turn goes by stays.
+-- A row was taken for a query at a desk, between two states of the outside. What the turn goes by stays, and so do the counts.
 pub record TookStep {S O : Type 0} (acted : O → List Action → O → Type 0) (cache : S → Cache) (p : Point) (moment : Moment)
     (before : O) (q : Query) (d : Desk S) (after : O) (q' : Query) (d' : Desk S) (w' : Standing) (step : Step) : Type 0 where
   pub took : Took acted before after (setting_at d moment) p (at cache q d) (at cache q' d') (row (setting_at d moment) p (at cache q d)).following
   pub setting : setting_at d' moment ≡ setting_at d moment
+  pub counts : d'.counts ≡ d.counts
   pub next : Comes step d'.reply w' (row (setting_at d moment) p (at cache q d)).following

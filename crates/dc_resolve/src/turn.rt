@@ -68,6 +68,7 @@ fn go<S: Store, O: Effects>(
     requires moment { moment.time < 2 ^ 62 }
     ensures turn { TookTurned O.acted out.old out.new (turn (setting_at desk.old moment.entry) (point_of from) (at S.cache query.old desk.old)) (at S.cache query.new desk.new) desk.new.reply sender.new result }
     ensures setting { setting_at desk.new moment.entry ≡ setting_at desk.old moment.entry }
+    ensures counts { desk.new.counts ≡ desk.old.counts }
 {
     let mut point = from;
     for i in 0..MOST_ROWS {
@@ -94,6 +95,7 @@ pub fn start<S: Store, O: Effects>(
     requires moment { now < 2 ^ 62 }
     ensures turn { TookTurned O.acted out.old out.new (turn (setting_of desk.old.zones desk.old.forward desk.old.counts now draws.now) at_begin (begins (asked request.now) S.cache desk.old)) (at S.cache query.new desk.new) desk.new.reply sender.new result }
     ensures setting { setting_of desk.new.zones desk.new.forward desk.new.counts now draws.now ≡ setting_of desk.old.zones desk.old.forward desk.old.counts now draws.now }
+    ensures counts { desk.new.counts ≡ desk.old.counts }
 {
     let moment = Moment { time: now, draws };
     query.take(request);
@@ -131,6 +133,7 @@ pub fn heard<S: Store, O: Effects>(
     requires links { desk.old.link < 2 ^ 60 }
     ensures turn { (p : Accepted) → sender.old.accepted ≡ Some p → TookTurned O.acted out.old out.new (turn (setting_of desk.old.zones desk.old.forward desk.old.counts inbox.now.now draws.now) (at_heard p) (at S.cache query.old desk.old)) (at S.cache query.new desk.new) desk.new.reply sender.new result }
     ensures setting { setting_of desk.new.zones desk.new.forward desk.new.counts inbox.now.now draws.now ≡ setting_of desk.old.zones desk.old.forward desk.old.counts inbox.now.now draws.now }
+    ensures counts { desk.new.counts ≡ desk.old.counts }
 {
     let moment = moment_of(inbox, draws);
     hosts_fit(query);
@@ -160,6 +163,7 @@ pub fn failed<S: Store, O: Effects>(
     requires links { desk.old.link < 2 ^ 60 }
     ensures turn { TookTurned O.acted out.old out.new (turn (setting_of desk.old.zones desk.old.forward desk.old.counts inbox.now.now draws.now) at_failed (at S.cache query.old desk.old)) (at S.cache query.new desk.new) desk.new.reply sender.new result }
     ensures setting { setting_of desk.new.zones desk.new.forward desk.new.counts inbox.now.now draws.now ≡ setting_of desk.old.zones desk.old.forward desk.old.counts inbox.now.now draws.now }
+    ensures counts { desk.new.counts ≡ desk.old.counts }
 {
     let moment = moment_of(inbox, draws);
     hosts_fit(query);
@@ -184,6 +188,7 @@ pub fn event<S: Store, O: Effects>(
     requires links { desk.old.link < 2 ^ 60 }
     ensures turn { TookTurned O.acted out.old out.new (turned_after (followed sender.old.attempt inbox.now (occasion inbox.now.now draws.now desk.old.link)) (setting_of desk.old.zones desk.old.forward desk.old.counts inbox.now.now draws.now) (at S.cache query.old desk.old)) (at S.cache query.new desk.new) desk.new.reply sender.new result }
     ensures setting { setting_of desk.new.zones desk.new.forward desk.new.counts inbox.now.now draws.now ≡ setting_of desk.old.zones desk.old.forward desk.old.counts inbox.now.now draws.now }
+    ensures counts { desk.new.counts ≡ desk.old.counts }
 {
     match sender.on_event(inbox, draws, &mut desk.link, out) {
         Progress::Waiting => Outcome::Waiting,

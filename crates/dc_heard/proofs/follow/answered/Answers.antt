@@ -26,6 +26,6 @@ returns g c =
     let s : State = at g.S.Store.cache c.args.query.now c.args.desk.now in
     took_leads _ _ _ (answers_row said s) _ _ _ _ _ _ _ _ _ _ (told_answers k said (accepted_of c.args.answer) x s)
     (subst (λ (cache : Cache). g.O.Effects.acted c.args.out.now (nodata_lines x k (accepted_of c.args.answer) s ++ stats x cache ∷ []) c.tell.new.out) c.tell.ensures.store c.tell.ensures.acts)
-    c.tell.ensures.store (ap (λ d. d.link) c.tell.ensures.rest) (ap (λ d. setting_at d c.args.moment) c.tell.ensures.rest)
+    c.tell.ensures.store (ap (λ d. d.link) c.tell.ensures.rest) (ap (λ d. setting_at d c.args.moment) c.tell.ensures.rest) (ap (λ d. d.counts) c.tell.ensures.rest)
     (subst (λ (m : Message). Leads (answers_row m s) (query_of c.answers.new.query) c.answers.new.reply c.answers.result) c.said-message.ensures
     (c.answers.ensures (g.S.Store.cache c.args.desk.now.store) c.args.desk.now.link))

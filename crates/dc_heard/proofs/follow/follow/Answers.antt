@@ -21,6 +21,6 @@ returns-in-Alias g c =
     let x : Setting = setting_at c.args.desk.now c.args.moment in
     let s : State = at g.S.Store.cache c.args.query.now c.args.desk.now in
     rw c.in-Alias.is
-    (took_leads _ _ _ (class_row (marks.renames (record_in said c.in-Alias.i)) k said (accepted_of c.args.answer) x s) _ _ _ _ _ _ _ _ [] [] refl (g.met.O.Effects.acted_none _) refl refl refl
+    (took_leads _ _ _ (class_row (marks.renames (record_in said c.in-Alias.i)) k said (accepted_of c.args.answer) x s) _ _ _ _ _ _ _ _ [] [] refl (g.met.O.Effects.acted_none _) refl refl refl refl
     (subst (λ (m : Message). Leads (class_row (marks.renames (record_in m c.in-Alias.i)) k m (accepted_of c.args.answer) x s) s.query c.args.desk.now.reply c.alias.result) c.said.ensures
     (c.alias.ensures k (accepted_of c.args.answer) x s c.args.desk.now.reply)))

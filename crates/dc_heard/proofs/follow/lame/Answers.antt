@@ -16,5 +16,6 @@ returns g c = λ k m.
       store = refl;
       links = refl;
       setting = refl;
+      counts = refl;
       next = refl;
     }

@@ -20,5 +20,6 @@ returns g c =
       store = rw (ttl, c.second-second.ensures) at c.no_name.ensures.store;
       links = refl;
       setting = refl;
+      counts = refl;
       next = refl;
     }

@@ -26,7 +26,7 @@ returns g c =
     let owner : c.owner.result ≡ zone = c.owner.ensures ∙ ap (λ (m : Message). (record_in m c.args.i).owner) c.said-message.ensures in
     took_leads _ _ _ (refers_row zone said s) _ _ _ _ _ _ _ _ _ _ (told_refers zone k said (accepted_of c.args.answer) x s)
     (subst (λ (cache : Cache). g.O.Effects.acted c.args.out.now (nodata_lines x k (accepted_of c.args.answer) s ++ stats x cache ∷ []) c.tell.new.out) c.tell.ensures.store c.tell.ensures.acts)
-    c.tell.ensures.store (ap (λ d. d.link) c.tell.ensures.rest) (ap (λ d. setting_at d c.args.moment) c.tell.ensures.rest)
+    c.tell.ensures.store (ap (λ d. d.link) c.tell.ensures.rest) (ap (λ d. setting_at d c.args.moment) c.tell.ensures.rest) (ap (λ d. d.counts) c.tell.ensures.rest)
     (subst (λ (n : Name). Leads (refers_row n said s) (query_of c.refers.new.query) c.tell.new.desk.reply c.refers.result) owner
     (subst (λ (m : Message). Leads (refers_row c.owner.result m s) (query_of c.refers.new.query) c.tell.new.desk.reply c.refers.result) c.said-message.ensures
     (c.refers.ensures (g.S.Store.cache c.args.desk.now.store) c.args.desk.now.link c.tell.new.desk.reply)))

@@ -17,7 +17,7 @@ returns-then-turns-ge100 g c =
     let now : c.turns.result ≡ s.query.turns + 1 = c.turns.ensures ∙ ap (λ (q : Query). q.turns) c.count.ensures in
     took_leads _ _ _ (ends (counted s.query) [] (dropped turns)) _ _ _ _ _ _ _ _ [] []
     (heard_last (accepted_of c.args.answer) (setting_at c.args.desk.now c.args.moment) s (omega arith))
-    (g.met.O.Effects.acted_none _) refl refl refl (record { acts = refl; puts = refl; query = c.count.ensures; next = refl })
+    (g.met.O.Effects.acted_none _) refl refl refl refl (record { acts = refl; puts = refl; query = c.count.ensures; next = refl })
 
 pub returns : goal.returns
 returns g c =
@@ -26,4 +26,4 @@ returns g c =
     took_as _ _ _ (message_row (message_of c.args.answer.packet.now) (accepted_of c.args.answer)) _ _ _ _ _ _ _ _ _ _
     (heard_on (accepted_of c.args.answer) (setting_at c.args.desk.now c.args.moment) s (omega arith)
     ∙ ap (λ (q : Query). message_row (message_of c.args.answer.packet.now) (accepted_of c.args.answer) (setting_at c.args.desk.now c.args.moment) (record s { query = q })) (sym c.count.ensures))
-    refl refl refl c.read.ensures
+    refl refl refl refl c.read.ensures

@@ -15,4 +15,4 @@ returns-in-Err g c =
     let s : State = at g.S.Store.cache c.args.query.now c.args.desk.now in
     took_leads _ _ _ (ends s.query [] (dropped malformed)) _ _ _ _ _ _ _ _ [] []
     (message_none (message_of c.args.answer.packet.now) (accepted_of c.args.answer) (setting_at c.args.desk.now c.args.moment) s c.in-Err.ensures.read)
-    (g.met.O.Effects.acted_none _) refl refl refl (record { acts = refl; puts = refl; query = refl; next = refl })
+    (g.met.O.Effects.acted_none _) refl refl refl refl (record { acts = refl; puts = refl; query = refl; next = refl })

@@ -18,7 +18,7 @@ pub returns-then-none_placed : goal.returns-then-none_placed
 unfolding all_put
 returns-then-none_placed g c = step_as g.O.Effects.acted g.S.Store.cache at_next c.args.moment _ _ _ _ _ _ _ _ _
     (next_fails (setting_at c.args.desk.now c.args.moment) (at g.S.Store.cache c.args.query.now c.args.desk.now) c.requires.hosts (search rules))
-    (g.met.O.Effects.acted_none _) refl refl refl refl (refl, c.requires.idle)
+    (g.met.O.Effects.acted_none _) refl refl refl refl refl (refl, c.requires.idle)
 
 pub start-requires-clause-place : goal.start-requires-clause-place
 start-requires-clause-place g c =
@@ -38,5 +38,5 @@ returns g c =
     step_as g.O.Effects.acted g.S.Store.cache at_next c.args.moment _ _ _ _ _ _ c.start.new.self _ _
     (next_asks (setting_at c.args.desk.now c.args.moment) (at g.S.Store.cache c.args.query.now c.args.desk.now) c.requires.hosts (search rules))
     (g.met.O.Effects.acted_then _ _ _ _ _ (rw (← text) c.line.ensures) (subst (λ (x : Attempt). g.O.Effects.acted c.line.new.self (opening_of x ∷ []) c.start.new.out) same c.start.ensures.acts))
-    (c.set_places.ensures ∙ ap (with_places (query_of c.args.query.now)) servers) refl c.start.ensures.links refl
+    (c.set_places.ensures ∙ ap (with_places (query_of c.args.query.now)) servers) refl c.start.ensures.links refl refl
     (waits a, refl, (a, refl, standing))

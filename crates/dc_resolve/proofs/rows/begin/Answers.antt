@@ -6,8 +6,8 @@ use Rattle.dc_resolve.proofs.rows.begin.Goals as goal
 
 pub returns-then-request-eq-KIND_AXFR : goal.returns-then-request-eq-KIND_AXFR
 unfolding all_put
-returns-then-request-eq-KIND_AXFR g c m = row_as g.O.Effects.acted g.S.Store.cache _ m _ _ _ _ _ _ _ _ (begin_axfr (at g.S.Store.cache c.args.query.now c.args.desk.now) (search rules)) (g.met.O.Effects.acted_none _) refl refl refl refl refl
+returns-then-request-eq-KIND_AXFR g c m = row_as g.O.Effects.acted g.S.Store.cache _ m _ _ _ _ _ _ _ _ (begin_axfr (at g.S.Store.cache c.args.query.now c.args.desk.now) (search rules)) (g.met.O.Effects.acted_none _) refl refl refl refl refl refl
 
 pub returns : goal.returns
 unfolding all_put
-returns g c m = row_as g.O.Effects.acted g.S.Store.cache _ m _ _ _ _ _ _ _ _ (begin_other (at g.S.Store.cache c.args.query.now c.args.desk.now) (search rules)) (g.met.O.Effects.acted_none _) c.begin.ensures refl refl refl refl
+returns g c m = row_as g.O.Effects.acted g.S.Store.cache _ m _ _ _ _ _ _ _ _ (begin_other (at g.S.Store.cache c.args.query.now c.args.desk.now) (search rules)) (g.met.O.Effects.acted_none _) c.begin.ensures refl refl refl refl refl

@@ -27,3 +27,6 @@ unfolding row
 returns-in-End-clause-turn g c =
     turned_at g.O.Effects.acted c.args.desk.now c.moment_of-moment.result _ _ _ _ _ _ _ _ _ _ c.moment_of-moment.ensures.time c.moment_of-moment.ensures.draws
     (turned_ends g.O.Effects.acted g.S.Store.cache at_failed c.moment_of-moment.result _ c.args.query.now c.args.desk.now _ _ _ c.args.sender.now _ (c.in-End.ensures c.moment_of-moment.result) c.requires.idle)
+
+pub returns-in-End-clause-counts : goal.returns-in-End-clause-counts
+returns-in-End-clause-counts g c = (c.in-End.ensures c.moment_of-moment.result).counts

@@ -1,4 +1,4 @@
-use Rattle.std.proofs.Common.{◌-◌, ◌+◌, arith, ◌∙◌}
+use Rattle.std.proofs.Common.{◌-◌, ◌+◌, arith, refl, ◌∙◌}
 use Rattle.dc_machine.specs.Turn.{Setting, State}
 use Rattle.dc_machine.proofs.Taking.{turning_begins, turning_more, turning_ends}
 use Rattle.dc_desk.specs.View.{setting_at, at}
@@ -11,6 +11,7 @@ loop-i-init g c = record {
   turning = turning_begins g.O.Effects.acted g.met.O.Effects.acted_none c.args.out.now (setting_at c.args.desk.now c.args.moment) (point_of c.args.from) (at g.S.Store.cache c.args.query.now c.args.desk.now) c.requires.good;
   idle = c.requires.idle;
   links = c.requires.links;
+  counts = refl;
 }
 
 pub step-requires-clause-good : goal.step-requires-clause-good
@@ -34,6 +35,7 @@ loop-i-preserved g c =
           (point_of c.loop-i.point) (point_of c.in-Go.further) (4000 - c.loop-i.i) (4000 - (c.loop-i.i + 1)) c.loop-i.invariant.turning (omega arith) w c.in-Go.ensures.setting;
       idle = c.in-Go.ensures.next.1;
       links = omega (arith, links_stay g.O.Effects.acted c.loop-i.out c.step.new.out h (point_of c.loop-i.point) (point_of c.in-Go.further) s t w, c.loop-i.invariant.links);
+      counts = c.in-Go.ensures.counts ∙ c.loop-i.invariant.counts;
     }
 
 pub returns-in-End-clause-turn : goal.returns-in-End-clause-turn
@@ -51,6 +53,9 @@ returns-in-End-clause-turn g c =
 
 pub returns-in-End-clause-setting : goal.returns-in-End-clause-setting
 returns-in-End-clause-setting g c = c.in-End.ensures.setting ∙ c.loop-i.invariant.turning.same
+
+pub returns-in-End-clause-counts : goal.returns-in-End-clause-counts
+returns-in-End-clause-counts g c = c.in-End.ensures.counts ∙ c.loop-i.invariant.counts
 
 pub unreachable-requires : goal.unreachable-requires
 unreachable-requires g c = absurd (omega (arith, c.loop-i.invariant.turning.enough))

@@ -31,6 +31,11 @@ returns-in-Go-clause-setting g c =
     let m : Moment = record { time = c.args.now; draws = c.args.draws } in
     c.go.ensures.setting ∙ (c.in-Go.ensures m).setting
 
+pub returns-in-Go-clause-counts : goal.returns-in-Go-clause-counts
+returns-in-Go-clause-counts g c =
+    let m : Moment = record { time = c.args.now; draws = c.args.draws } in
+    c.go.ensures.counts ∙ (c.in-Go.ensures m).counts
+
 pub returns-in-End-clause-turn : goal.returns-in-End-clause-turn
 unfolding row
 returns-in-End-clause-turn g c =
@@ -43,3 +48,8 @@ pub returns-in-End-clause-setting : goal.returns-in-End-clause-setting
 returns-in-End-clause-setting g c =
     let m : Moment = record { time = c.args.now; draws = c.args.draws } in
     (c.in-End.ensures m).setting
+
+pub returns-in-End-clause-counts : goal.returns-in-End-clause-counts
+returns-in-End-clause-counts g c =
+    let m : Moment = record { time = c.args.now; draws = c.args.draws } in
+    (c.in-End.ensures m).counts
