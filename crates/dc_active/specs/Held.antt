@@ -10,11 +10,11 @@ use Rattle.dc_active.specs.declared.actives.Actives.TheInside.{Inside}
 abbrev pub roll_of : Inside → Roll
 roll_of a = record { queries = queries_of a.entries.items; spare = vec_len a.spare }
 
--- Each entry fits its query, each spare work has an idle sender, the UDP queries are counted, and there is memory for 220.
+-- Each entry fits its query, each spare work has an idle sender, the UDP queries are counted, and there is memory for 221.
 pub record IsKept (a : Inside) : Type 0 where
   pub fit : AllOf IsFit a.entries.items
   pub idle : AllOf (λ w. IsNone w.value.sender.attempt) a.spare.items
   pub udp : a.udp ≡ length (udp_queries (queries_of a.entries.items))
-  pub most : vec_len a.entries + vec_len a.spare ≤ 220
-  pub entries : 220 ≤ vec_capacity a.entries
-  pub works : 220 ≤ vec_capacity a.spare
+  pub most : vec_len a.entries + vec_len a.spare ≤ 221
+  pub entries : 221 ≤ vec_capacity a.entries
+  pub works : 221 ≤ vec_capacity a.spare

@@ -12,7 +12,7 @@ use crate::work::{MOST_QUERIES, Taken, Work, spare_works};
 use std::alloc::{AllocError, Global};
 use std::marker::Model;
 
-/// The active queries in the order of their serial numbers, and works for further ones: 220 together. It takes its memory in `new`.
+/// The active queries in the order of their serial numbers, and works for further ones: 221 together. It takes its memory in `new`.
 ///
 /// Contracts see the active queries as the machine does, and the number of spare works.
 #[derive(Drop)]
@@ -35,9 +35,9 @@ impl Model for Actives {
 }
 
 impl Actives {
-    /// No active query, and 220 spare works.
+    /// No active query, and 221 spare works.
     pub fn new(alloc: Global) -> Result<Actives, AllocError>
-        ensures { IfOk result (λ actives. actives ≡ record { queries = []; spare = 220 }) }
+        ensures { IfOk result (λ actives. actives ≡ record { queries = []; spare = 221 }) }
     {
         Ok(Actives {
             entries: Vec::with_capacity(alloc, MOST_QUERIES)?,
@@ -49,7 +49,7 @@ impl Actives {
     /// How many queries are active.
     pub fn len(&self) -> usize
         ensures value { result ≡ length self.now.queries }
-        ensures most { length self.now.queries + self.now.spare ≤ 220 }
+        ensures most { length self.now.queries + self.now.spare ≤ 221 }
     {
         self.entries.len()
     }
@@ -57,7 +57,7 @@ impl Actives {
     /// How many of them are of clients over UDP.
     pub fn udp(&self) -> usize
         ensures value { result ≡ length (udp_queries self.now.queries) }
-        ensures most { result ≤ 220 }
+        ensures most { result ≤ 221 }
     {
         self.udp
     }
@@ -152,7 +152,7 @@ impl Actives {
     /// Puts in a query that waits, in the order of serial numbers.
     pub fn put(&mut self, taken: Taken)
         requires waiting { IsWaiting taken.work.value }
-        requires room { length self.old.queries + self.old.spare < 220 }
+        requires room { length self.old.queries + self.old.spare < 221 }
         ensures { self.new ≡ record self.old { queries = with_query (active_of taken) self.old.queries } }
     {
         let place = entry::place_for(&self.entries, taken.serial);
@@ -172,7 +172,7 @@ impl Actives {
     /// Takes back the work of a query that ended.
     pub fn give_back(&mut self, work: Box<Work>)
         requires idle { IsNone work.value.sender.attempt }
-        requires room { length self.old.queries + self.old.spare < 220 }
+        requires room { length self.old.queries + self.old.spare < 221 }
         ensures { self.new ≡ record self.old { spare = self.old.spare + 1 } }
     {
         self.spare.push(work).unwrap();

@@ -7,8 +7,9 @@ use dc_frames::Query;
 use dc_transmit::Transmit;
 use std::alloc::{AllocError, Global};
 
-/// How many queries may be active: 200 over UDP, and one on each of 20 connections (after djbdns' dnscache.c, MAXUDP and MAXTCP).
-pub(crate) const MOST_QUERIES: usize = 220;
+/// How many queries there may be: 200 active ones over UDP, one on each of 20 connections (after djbdns' dnscache.c, MAXUDP and
+/// MAXTCP), and one that begins.
+pub(crate) const MOST_QUERIES: usize = 221;
 
 /// What a query works with.
 #[derive(Drop)]

@@ -6,6 +6,7 @@ use dc_rules::Zones;
 use dc_store::Store;
 
 /// What the queries of a resolver share.
+#[derive(Drop)]
 pub struct Desk<S: Store> {
     /// The zones with servers of their own, and the rule.
     pub zones: Zones,

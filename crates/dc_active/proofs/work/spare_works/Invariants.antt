@@ -5,6 +5,6 @@ use Rattle.dc_active.proofs.work.spare_works.Given as goal
 abbrev pub invariant-loop-i : goal.invariant-loop-i
 invariant-loop-i l = record {
   many : vec_len l.works ≡ l.i;
-  room : 220 ≤ vec_capacity l.works;
+  room : 221 ≤ vec_capacity l.works;
   idle : AllOf (λ w. IsNone w.value.sender.attempt) l.works.items;
 }
