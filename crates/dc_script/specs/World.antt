@@ -53,10 +53,17 @@ pub record Acted {S K : Type 0} (gained : K → List ℕ → K → Type 0) (old 
   pub written : Written gained old.write_failed new.write_failed old.sink (text_of actions) new.sink
   pub same : new ≡ record old { sink = new.sink; write_failed = new.write_failed }
 
--- These events were handed out.
+-- The text has no whole line of an event.
+abbrev pub SaysNoMore : List ℕ → Type 0
+SaysNoMore text = (n : ℕ) → (says n text).events ≡ []
+
+-- These events were handed out. Where a read failed since, no whole line of an event is left; where one had failed before, nothing was
+-- read.
 pub record HandedOut {S K : Type 0} (took : S → List ℕ → S → Type 0) (old : Recorded S K) (events : List Event) (new : Recorded S K) : Type 0 where
   pub heard : ReadOff took old.source old.unread old.lines events new.source new.unread new.lines
   pub same_start : new.source_start ≡ old.source_start
+  pub stopped : old.read_failed ≡ false → new.read_failed ≡ true → SaysNoMore new.unread
+  pub stays : old.read_failed ≡ true → (new.read_failed ≡ true) × (new.unread ≡ old.unread)
 
 -- These actions were written.
 pub record Wrote {S K : Type 0} (gained : K → List ℕ → K → Type 0) (old : Recorded S K) (actions : List Action) (new : Recorded S K) : Type 0 where
@@ -66,10 +73,6 @@ pub record Wrote {S K : Type 0} (gained : K → List ℕ → K → Type 0) (old 
 -- The script ends here, with its line `end` and nothing behind it.
 abbrev pub IsOver : List ℕ → Type 0
 IsOver text = (n : ℕ) → says n text ≡ record { events = []; bad = None }
-
--- The text has no whole line of an event.
-abbrev pub SaysNoMore : List ℕ → Type 0
-SaysNoMore text = (n : ℕ) → (says n text).events ≡ []
 
 -- After so many lines, line k is outside the grammar: whatever follows, or since the source is at its end.
 pub record Breaks (left : Option (List ℕ)) (text : List ℕ) (lines k : ℕ) : Type 0 where
@@ -191,19 +194,47 @@ Acted-wrote gained a b xs p = record { written = p.written; same_start = ap (λ 
 pub Acted-faults : {S K : Type 0} (gained : K → List ℕ → K → Type 0) (a b : Recorded S K) (xs : List Action) → Acted gained a xs b → a.faults ≤ b.faults
 Acted-faults gained a b xs p = let same : b.faults ≡ a.faults = ap (λ w. w.faults) p.same in omega (arith, same)
 
+-- What isn't failed hasn't failed.
+no_change : (failed : Bool) (P : Type 0) → failed ≡ false → failed ≡ true → P
+no_change false P e f = cc
+no_change true P e f = cc
+
+-- A read that failed did so in the first part or in the second.
+stopped_by : (mid old new : Bool) (held left : List ℕ) {now : Bool} → now ≡ mid → (old ≡ false → now ≡ true → SaysNoMore held)
+    → (now ≡ false → new ≡ true → SaysNoMore left) → (now ≡ true → (new ≡ true) × (left ≡ held)) → old ≡ false → new ≡ true → SaysNoMore left
+stopped_by false old new held left at first second stays e f = second at f
+stopped_by true old new held left at first second stays e f =
+    let P : List ℕ → Type 0 = λ text. SaysNoMore text in
+    subst P (sym (stays at).1) (first e at)
+
 module _ {S K : Type 0} (took : S → List ℕ → S → Type 0) (none : (a : S) → took a [] a)
     (both : (a b c : S) (xs ys : List ℕ) → took a xs b → took b ys c → took a (xs ++ ys) c) where
   pub HandedOut-none : (a : Recorded S K) → HandedOut took a [] a
-  HandedOut-none a = record { heard = ReadOff-none took none both a.source a.unread a.lines; same_start = refl }
+  HandedOut-none a = record {
+    heard = ReadOff-none took none both a.source a.unread a.lines;
+    same_start = refl;
+    stopped = no_change a.read_failed (SaysNoMore a.unread);
+    stays = λ failed. (failed, refl);
+  }
 
   pub HandedOut-both : (a b c : Recorded S K) (xs ys : List Event) → HandedOut took a xs b → HandedOut took b ys c → HandedOut took a (xs ++ ys) c
   HandedOut-both a b c xs ys p q = record {
     heard = ReadOff-both took none both a.source b.source c.source a.unread b.unread c.unread a.lines b.lines c.lines xs ys p.heard q.heard;
     same_start = q.same_start ∙ p.same_start;
+    stopped = stopped_by b.read_failed a.read_failed c.read_failed b.unread c.unread refl p.stopped q.stopped q.stays;
+    stays = λ failed.
+        let first = p.stays failed in
+        let then = q.stays first.0 in
+        (then.0, then.1 ∙ first.1);
   }
 
   -- Where a list was acted, nothing was handed out.
   pub Acted-heard : (gained : K → List ℕ → K → Type 0) (a b : Recorded S K) (xs : List Action) → Acted gained a xs b → HandedOut took a [] b
   Acted-heard gained a b xs p =
       let P : Recorded S K → Type 0 = λ w. HandedOut took a [] w in
-      subst P (sym p.same) (record { heard = ReadOff-none took none both a.source a.unread a.lines; same_start = refl })
+      subst P (sym p.same) (record {
+        heard = ReadOff-none took none both a.source a.unread a.lines;
+        same_start = refl;
+        stopped = no_change a.read_failed (SaysNoMore a.unread);
+        stays = λ failed. (failed, refl);
+      })

@@ -1,5 +1,5 @@
 //! The head of a script.
-ghost use Rattle.std.specs.Prelude.{◌≡◌, ◌≤◌, ◌++◌, ℕ, List, [], Some};
+ghost use Rattle.std.specs.Prelude.{◌≡◌, ◌≤◌, ◌++◌, ℕ, List, [], Some, IfOk};
 ghost use Rattle.dc_event.specs.Causes.{Rose};
 ghost use Rattle.dc_script.specs.Head.{at_version, no_head};
 ghost use Rattle.dc_script.specs.Heads.{stage_of, head_in, Reads, LinesStand, HeadStands, HeadIs};
@@ -91,6 +91,7 @@ fn read_lines<S: Source>(
     ensures later { S.faults source.old ≤ S.faults source.new }
     ensures failed { result ≡ Err ScriptError.ReadFault → Rose (S.faults source.old) (S.faults source.new) }
     ensures memory { result ≡ Err ScriptError.NoMemory → ⊥ }
+    ensures few { IfOk result (λ lines. lines ≤ 4358) }
 {
     let mut lines: u64 = 0;
     loop {
@@ -112,6 +113,7 @@ pub fn read_head<S: Source>(alloc: Global, source: &mut S) -> Result<Script, Scr
     ensures later { S.faults source.old ≤ S.faults source.new }
     ensures failed { result ≡ Err ScriptError.ReadFault → Rose (S.faults source.old) (S.faults source.new) }
     ensures memory { result ≡ Err ScriptError.NoMemory → source.new ≡ source.old }
+    ensures few { IfOk result (λ script. script.lines ≤ 4358) }
 {
     let mut rest = LineRest::new(alloc)?;
     let mut setup = Setup::new(alloc)?;

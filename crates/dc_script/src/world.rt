@@ -146,6 +146,7 @@ impl<S: Source, K: Sink> ScriptWorld<S, K> {
             (λ number. Breaks (S.left self.new.source) self.new.unread self.new.lines number × (self.new.write_failed ≡ false))
             (Rose self.new.source_start (S.faults self.new.source) ⊎ Rose self.new.sink_start (K.faults self.new.sink)) }
         ensures stopped { self.old.read_failed ≡ false → self.new.read_failed ≡ true → SaysNoMore self.new.unread }
+        ensures stays { self.old.read_failed ≡ true → self.new ≡ self.old }
         ensures read { self.old.read_failed ≡ true → result ≡ Heard.Failed }
         ensures write { self.old.write_failed ≡ true → result ≡ Heard.Failed }
         ensures marked { result ≡ Heard.Failed → (self.new.read_failed ≡ true) ⊎ (self.new.write_failed ≡ true) }
