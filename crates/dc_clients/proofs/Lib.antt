@@ -1,2 +1,8 @@
 pub mod PermitLemmas
 pub mod Few
+pub mod TookLemmas
+pub mod ClockLemmas
+pub mod StepLemmas
+pub mod SettleLemmas
+pub mod StreamSteps
+pub mod RequestLemmas

@@ -1,1 +1,4 @@
 pub mod Permits
+pub mod View
+pub mod Endings
+pub mod Due

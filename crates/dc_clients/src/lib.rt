@@ -1,6 +1,12 @@
-//! What the clients of a core stand on: laws on the machine's steps.
+//! The clients of a core: each event comes to a request, a query or a connection, and what follows is done.
 #![tactic(auto)]
 
+mod clients;
+mod clock;
 pub mod laws;
-#[cfg(test)]
-mod tests;
+mod requests;
+mod settle;
+mod step;
+mod streams;
+
+pub use clients::Clients;
