@@ -1,0 +1,5 @@
+pub mod MachineRuns
+pub mod Promised
+pub mod SeedLemmas
+pub mod ServingLemmas
+pub mod Complete

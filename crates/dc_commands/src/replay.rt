@@ -1,0 +1,61 @@
+//! Replaying a script: its actions, in the order in which they come, as text.
+ghost use Rattle.std.specs.Prelude.{◌≡◌, ℕ, List, ◌++◌, IfOk};
+ghost use Rattle.std.specs.Io.KnownBytes.{IsAtEnd};
+ghost use Rattle.dc_machine.specs.Run.{opening};
+ghost use Rattle.dc_rules.specs.Settings.{rules_of};
+ghost use Rattle.dc_event.specs.Causes.{Rose};
+ghost use Rattle.dc_script.specs.Head.{MayFollow, head_of};
+ghost use Rattle.dc_play.specs.Playing.{limit_of};
+ghost use Rattle.dc_commands.specs.Replay.{Keeps, outcome, whole_text, cache_of};
+
+use crate::status::Status;
+use dc_core::Core;
+use dc_event::{Sink, Source};
+use dc_play::{Events, Places, play};
+use dc_ring::ArenaStore;
+use dc_rules::Config;
+use dc_script::{ScriptError, read_head};
+use std::alloc::{AllocError, Global};
+
+/// A core with an empty cache of the configured size.
+pub(crate) fn core_of(alloc: Global, config: Config) -> Result<Core<ArenaStore>, AllocError>
+    ensures { IfOk result (λ c. c ≡ record { rules = rules_of config; machine = opening (cache_of config); handled = 0 }) }
+{
+    let store = ArenaStore::new(alloc, config.size)?;
+    Core::new(alloc, config, store)
+}
+
+/// Replays the script that a source gives, and writes its actions to a sink. At most `turns` events are handled, and never more than 2^60.
+///
+/// The core's memory is taken behind the head, which says how large the cache is, and before the first event.
+pub fn replay_command<S: Source, K: Sink>(
+    alloc: Global,
+    source: &mut S,
+    sink: &mut K,
+    turns: u64,
+) -> Status
+    ensures told { (bytes : List ℕ) × ((text : List ℕ) × S.took source.old bytes source.new × K.gained sink.old text sink.new
+        × ((tail : List ℕ) → MayFollow (S.left source.new) tail → Keeps (outcome (limit_of turns) (head_of (bytes ++ tail))) (whole_text (head_of bytes)) text result)) }
+    ensures read { result ≡ Status.ReadFault → Rose (S.faults source.old) (S.faults source.new) }
+    ensures write { result ≡ Status.WriteFault → Rose (K.faults sink.old) (K.faults sink.new) }
+    ensures end { result ≡ Status.Done → IsAtEnd (S.left source.new) }
+    ensures memory { result ≡ Status.NoMemory → sink.new ≡ sink.old }
+{
+    let Ok(places) = Places::new(alloc) else {
+        return Status::NoMemory;
+    };
+    let script = match read_head(alloc, source) {
+        Ok(script) => script,
+        Err(ScriptError::Bad { line }) => return Status::BadScript(line),
+        Err(ScriptError::ReadFault) => return Status::ReadFault,
+        Err(ScriptError::NoMemory) => return Status::NoMemory,
+    };
+    let Ok(mut core) = core_of(alloc, script.config) else {
+        return Status::NoMemory;
+    };
+    let events = Events {
+        lines: script.lines,
+        rest: script.rest,
+    };
+    Status::from(play(places, &mut core, script.seed, events, source, sink, turns))
+}

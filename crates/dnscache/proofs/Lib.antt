@@ -1,4 +1,0 @@
-pub mod Pieces
-pub mod Heads
-pub mod Replays
-pub mod Worlds
