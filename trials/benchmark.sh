@@ -10,14 +10,7 @@ seconds=${2:-10}
 source ./common.sh
 needs tinydns tinydns-data axfrdns tcpserver dig dnscache dnsperf unbound
 
-authority root 127.53.1.1 <<'DATA'
-.:127.53.1.1:a.root-servers
-&trial:127.53.1.2:a.ns.trial
-DATA
-authority test 127.53.1.2 <<'DATA'
-.trial:127.53.1.2:a.ns.trial
-+*.w.trial:192.0.2.7:86400
-DATA
+wildcard 127.53.1.1 127.53.1.2
 for i in $(seq 1000); do echo "c$i.w.trial A"; done > "$room/cached"
 for i in $(seq 2000000); do echo "f$i.w.trial A"; done > "$room/fetched"
 

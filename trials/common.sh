@@ -30,6 +30,18 @@ authority() {
   started+=($!)
 }
 
+# wildcard ROOT SERVER: at these addresses a server of the root, and one of the zone `trial`, in which every name below `w` has an address.
+wildcard() {
+  authority root "$1" <<DATA
+.:$1:a.root-servers
+&trial:$2:a.ns.trial
+DATA
+  authority trial "$2" <<DATA
+.trial:$2:a.ns.trial
++*.w.trial:192.0.2.7:86400
+DATA
+}
+
 # cache_folder NAME ROOTSERVER: a folder as dnscache reads it: clients of 127, and one server of the root.
 cache_folder() {
   mkdir -p "$room/$1/ip" "$room/$1/servers"

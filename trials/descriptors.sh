@@ -9,14 +9,7 @@ program=$(realpath "${1:?the program}")
 source ./common.sh
 needs tinydns tinydns-data axfrdns tcpserver dig dnsperf
 
-authority root 127.53.2.1 <<'DATA'
-.:127.53.2.1:a.root-servers
-&trial:127.53.2.2:a.ns.trial
-DATA
-authority trial 127.53.2.2 <<'DATA'
-.trial:127.53.2.2:a.ns.trial
-+*.w.trial:192.0.2.7:86400
-DATA
+wildcard 127.53.2.1 127.53.2.2
 cache_folder ours 127.53.2.1
 ours ours 127.53.2.53 127.53.2.54 1000000
 await 127.53.2.53

@@ -1,4 +1,7 @@
 //! What the program says of how it ended.
+ghost use Rattle.std.specs.Prelude.{◌≡◌};
+ghost use Rattle.std.specs.Process.{exit_status};
+ghost use Rattle.dnscache.specs.Exit.{exit_of};
 
 use dc_commands::Status;
 use dc_config::Variable;
@@ -42,7 +45,9 @@ pub fn report<R: Eprint>(rt: &R, status: &Status) {
 }
 
 /// The exit status: 0 where the program ended well, 100 for unknown words, and else 111.
-pub fn exit_code(status: &Status) -> ExitCode {
+pub fn exit_code(status: &Status) -> ExitCode
+    ensures { exit_status result ≡ exit_of status.now }
+{
     ExitCode::from(match status {
         Status::Done | Status::Spent => 0,
         Status::Usage => 100,
