@@ -3,7 +3,7 @@ ghost use Rattle.std.specs.Prelude.{◌<◌, ◌^◌, IsNone};
 ghost use Rattle.dc_active.specs.View.{IsWaiting};
 
 use crate::{Actives, Client, Taken, Work};
-use dc_event::Effects;
+use dc_engine::Effects;
 use dc_name::Name;
 use dc_packet::Request;
 use std::process::Abort;

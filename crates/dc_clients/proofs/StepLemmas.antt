@@ -2,10 +2,10 @@
 use Rattle.std.proofs.Common.{◌≡◌, ◌⊎◌, inl, inr, ℕ, List, sym, ap, ◌∙◌}
 use Rattle.dc_model.specs.Cache.{Cache}
 use Rattle.dc_model.specs.Event.{Event, Action}
-use Rattle.dc_event.specs.View.{kind_of, event_of}
-use Rattle.dc_event.specs.declared.events.Event.{Event as CodeEvent}
-use Rattle.dc_event.specs.declared.events.Kind.{Kind}
-use Rattle.dc_event.specs.declared.events.Kind.TheVariants.{Datagram, LinkUp, LinkBytes, LinkDown, BindRefused}
+use Rattle.dc_engine.specs.View.{kind_of, event_of}
+use Rattle.dc_engine.specs.declared.events.Event.{Event as CodeEvent}
+use Rattle.dc_engine.specs.declared.events.Kind.{Kind}
+use Rattle.dc_engine.specs.declared.events.Kind.TheVariants.{Datagram, LinkUp, LinkBytes, LinkDown, BindRefused}
 use Rattle.dc_machine.specs.Machine.{Machine, Input, step, step_by, link_step}
 use Rattle.dc_clients.specs.View.{machine_of, rules_of, input_of, Took}
 use Rattle.dc_clients.specs.declared.clients.Clients.{Clients}

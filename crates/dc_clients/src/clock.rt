@@ -8,7 +8,7 @@ ghost use Rattle.dc_clients.specs.Due.{Stands, IsFirstDue, IsFirstIdle, is_soone
 ghost use Rattle.dc_clients.specs.View.{machine_of, input_of, works, AreBelow, Took};
 
 use crate::clients::Clients;
-use dc_event::{Effects, Inbox};
+use dc_engine::{Effects, Inbox};
 use dc_lines::CloseCause;
 use dc_store::Store;
 

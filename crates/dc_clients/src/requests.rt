@@ -12,7 +12,7 @@ ghost use Rattle.dc_clients.specs.View.{machine_of, input_of, rules_of, works, A
 
 use crate::clients::Clients;
 use dc_active::{Client, Taken};
-use dc_event::{Effects, Inbox};
+use dc_engine::{Effects, Inbox};
 use dc_lines::{DropCause, Line, line_query};
 use dc_packet::{Request, read_request};
 use dc_resolve::{event, start};

@@ -18,7 +18,7 @@ ghost use Rattle.dc_clients.specs.Endings.{EndsWell};
 use crate::clients::Clients;
 use dc_active::{Client, Taken};
 use dc_desk::Outcome;
-use dc_event::Effects;
+use dc_engine::Effects;
 use dc_lines::{CloseCause, DropCause, Line, line_drop, line_sent, line_tcpclose};
 use dc_store::Store;
 

@@ -5,7 +5,7 @@ ghost use Rattle.dc_machine.specs.Machine.{step};
 ghost use Rattle.dc_clients.specs.View.{machine_of, rules_of, works, AreBelow, Took};
 
 use crate::clients::Clients;
-use dc_event::{Effects, Inbox, Kind};
+use dc_engine::{Effects, Inbox, Kind};
 use dc_store::Store;
 
 impl<S: Store> Clients<S> {

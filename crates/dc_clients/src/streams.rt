@@ -8,7 +8,7 @@ ghost use Rattle.dc_clients.specs.View.{machine_of, input_of, works, AreBelow, T
 use crate::clients::Clients;
 use crate::settle::PATIENCE;
 use dc_active::Client;
-use dc_event::{Effects, Inbox};
+use dc_engine::{Effects, Inbox};
 use dc_lines::{CloseCause, Line, line_tcpopen};
 use dc_packet::read_request;
 use dc_store::Store;

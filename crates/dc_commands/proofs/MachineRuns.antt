@@ -7,7 +7,7 @@ use Rattle.dc_model.specs.Rules.{Rules}
 use Rattle.dc_machine.specs.Machine.{Machine, step}
 use Rattle.dc_machine.specs.Run as machine
 use Rattle.dc_machine.specs.Run.{opening, taken_from, run, seeded_run}
-use Rattle.dc_event.specs.Automaton.{actions_of}
+use Rattle.dc_engine.specs.Automaton.{actions_of}
 use Rattle.dc_rules.specs.Settings.{rules_of}
 use Rattle.dc_rules.specs.declared.config.Config.{Config}
 use Rattle.dc_play.specs.Playing.{run_of}

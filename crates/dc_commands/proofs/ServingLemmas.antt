@@ -1,41 +1,44 @@
 -- What the loop tells of the core, said of the machine's run.
-use Rattle.std.proofs.Common.{◌≡◌, ℕ, ◌+◌, ◌≤◌, true, false, List, [], ◌∷◌, ◌++◌, length, map, refl, ap, sym, ◌∙◌, arith, subst, Option, Some, Result, Ok, Err, ◌↔◌}
+use Rattle.std.proofs.Common.{◌≡◌, ◌≢◌, ℕ, ◌+◌, ◌≤◌, true, false, List, [], ◌∷◌, ◌++◌, length, flat_map, refl, ap, sym, ◌∙◌, arith, subst, Option, Some, None, Result, Ok, Err, ◌↔◌}
 use Rattle.dc_model.specs.Draws.{draws_of}
-use Rattle.dc_model.specs.Event.{Event, Action}
+use Rattle.std.specs.Prelude.{OnOk}
+use Rattle.std.specs.Result.{is_ok, is_err}
+use Rattle.dc_model.specs.Event.{Event, line}
+use Rattle.dc_model.specs.Line.{line_starting}
 use Rattle.dc_machine.specs.Machine.{Machine, wake}
 use Rattle.dc_machine.specs.Run as run
 use Rattle.dc_machine.specs.Run.{taken_from, last_of, opening}
 use Rattle.dc_draws.specs.Drawn.{Drawn}
-use Rattle.dc_event.specs.Automaton.{state_after, wakes_before}
-use Rattle.dc_event.specs.Causes.{Rose}
-use Rattle.dc_event.specs.declared.answers.Heard.{Heard}
+use Rattle.dc_engine.specs.Automaton.{state_after}
+use Rattle.dc_event.specs.History.{Exchange, listened, asked, did, gave, done_all}
 use Rattle.dc_rules.specs.Settings.{rules_of}
 use Rattle.dc_rules.specs.declared.config.Config.{Config}
 use Rattle.dc_config.specs.declared.error.ConfigError.{ConfigError}
 use Rattle.dc_config.specs.declared.error.ConfigError.TheVariants as config
 use Rattle.dc_config.specs.declared.error.Variable.{Variable as Named}
 use Rattle.dc_serve.specs.Serve as serve
-use Rattle.dc_serve.specs.Serve.{Serves, Ends, Justified, kept_answer, last_after}
+use Rattle.dc_serve.specs.Serve.{Ran, Ends, Justified, IfServed, each_passes, passes}
 use Rattle.dc_serve.specs.declared.Served.{Served}
 use Rattle.dc_serve.specs.declared.Served.TheVariants as served
 use Rattle.dc_core.specs.Running.{Running, core_machine}
-use Rattle.dc_commands.specs.Replay.{cache_of, machine_run}
-use Rattle.dc_commands.specs.Serving.{machine_after, machine_wakes, last_wake, Closes, Serving, status_from, refused_by}
+use Rattle.dc_commands.specs.Replay.{cache_of}
+use Rattle.dc_commands.specs.Serving.{machine_after, at_event, machine_passes, last_passes, Closes, Serving, IsSession, status_from, refused_by}
 use Rattle.dc_commands.specs.declared.status.Status.{Status}
-use Rattle.dc_commands.specs.declared.status.Status.TheVariants.{Done, BadVariable}
-use Rattle.dc_commands.proofs.MachineRuns.{run_is}
+use Rattle.dc_commands.specs.declared.status.Status.TheVariants.{Done, BadVariable, WorldFault}
 
 -- The core behind one event.
 abbrev then : (ℕ → List ℕ) → ℕ → Running → Event → Running
 then words n s e = core_machine.next s e (words n)
 
--- The wakes and the machine of a run, from any event on.
+-- What passes and the machine of a run, from any event on.
 
-wakes_from : (words : ℕ → List ℕ) (n : ℕ) (s : Running) (es : List Event)
-    → wakes_before core_machine words n s es ≡ map (λ t. wake t.before) (taken_from s.rules words n s.machine es)
+each_from : (words : ℕ → List ℕ) (n : ℕ) (s : Running) (es : List Event)
+    → each_passes core_machine words n s es ≡ flat_map at_event (taken_from s.rules words n s.machine es)
 unfolding taken_from
-wakes_from words n s [] = refl
-wakes_from words n s (e ∷ es) = ap (λ l. wake s.machine ∷ l) (wakes_from words (n + 1) (then words n s e) es)
+each_from words n s [] = refl
+each_from words n s (e ∷ es) =
+    let done = done_all (core_machine.actions s e (words n)) in
+    ap (λ l. asked (wake s.machine) (gave e) ∷ (done ++ l)) (each_from words (n + 1) (then words n s e) es)
 
 state_from : (words : ℕ → List ℕ) (n : ℕ) (s : Running) (es : List Event)
     → state_after core_machine words n s es
@@ -56,9 +59,10 @@ core_opening c = record { rules = rules_of c; machine = opening (cache_of c); ha
 
 -- The same of a whole run, with a configuration and a seed.
 
-run_wakes : (c : Config) (seed : List ℕ) (es : List Event) → wakes_before core_machine (draws_of seed) 0 (core_opening c) es ≡ machine_wakes c seed es
-unfolding run.seeded_run run.run machine_wakes
-run_wakes c seed es = wakes_from (draws_of seed) 0 (core_opening c) es
+run_passes : (c : Config) (seed : List ℕ) (es : List Event)
+    → done_all (core_machine.opening (core_opening c)) ++ each_passes core_machine (draws_of seed) 0 (core_opening c) es ≡ machine_passes c seed es
+unfolding run.seeded_run run.run machine_passes
+run_passes c seed es = ap (λ l. did (line line_starting) ∷ l) (each_from (draws_of seed) 0 (core_opening c) es)
 
 run_state : (c : Config) (seed : List ℕ) (es : List Event)
     → state_after core_machine (draws_of seed) 0 (core_opening c) es ≡ record { rules = rules_of c; machine = machine_after c seed es; handled = length es }
@@ -70,80 +74,103 @@ run_state c seed es =
 
 -- How serving ends
 
-rose_from : (old mid new : ℕ) → old ≤ mid → Rose mid new → Rose old new
-rose_from old mid new h r = omega (arith, h, r)
+closes : (answer : Served) (count limit : ℕ) (used_up : Type 0) (broken : ℕ → Type 0) (before now : ℕ)
+    → Ends answer false count limit → Justified answer used_up broken before now → Closes (status_from answer) count limit used_up broken
+closes served.Finished count limit used_up broken before now ends just = let never : false ≡ true = ends.0 in cc
+closes served.Spent count limit used_up broken before now ends just = ends.1
+closes served.Ended count limit used_up broken before now ends just = (ends.1, just)
+closes served.Failed count limit used_up broken before now ends just = ends.1
+closes (served.Bad k) count limit used_up broken before now ends just = (ends.1, just)
 
-closes : (answer : Served) (before last : Option Heard) (count limit : ℕ) (used_up : Type 0) (broken : ℕ → Type 0) (old mid new : ℕ)
-    → last ≡ kept_answer answer before → Ends answer false count limit → Justified answer used_up broken mid new → old ≤ mid
-    → Closes (status_from answer) last count limit used_up broken old new
-closes served.Finished before last count limit used_up broken old mid new answered ends just later = let never : false ≡ true = ends.0 in cc
-closes served.Spent before last count limit used_up broken old mid new answered ends just later = ends.1
-closes served.Ended before last count limit used_up broken old mid new answered ends just later = (answered, ends.1, just)
-closes served.Failed before last count limit used_up broken old mid new answered ends just later = (answered, ends.1, rose_from old mid new later just)
-closes (served.Bad k) before last count limit used_up broken old mid new answered ends just later = (answered, ends.1, just)
+last_is : (answer : Served) (count limit : ℕ) (m : Machine) → Ends answer false count limit → serve.last_passes answer (wake m) ≡ last_passes (status_from answer) m
+last_is served.Finished count limit m ends = let never : false ≡ true = ends.0 in cc
+last_is served.Spent count limit m ends = refl
+last_is served.Ended count limit m ends = refl
+last_is served.Failed count limit m ends = refl
+last_is (served.Bad k) count limit m ends = refl
 
-last_wakes : (answer : Served) (count limit : ℕ) (m : Machine) → Ends answer false count limit → serve.last_wake answer (wake m) ≡ last_wake (status_from answer) m
-last_wakes served.Finished count limit m ends = let never : false ≡ true = ends.0 in cc
-last_wakes served.Spent count limit m ends = refl
-last_wakes served.Ended count limit m ends = refl
-last_wakes served.Failed count limit m ends = refl
-last_wakes (served.Bad k) count limit m ends = refl
-
--- From a state in which nothing was gained yet.
-abbrev pub Skips : {W A : Type 0} → (W → List A → W → Type 0) → Type 0
-Skips {W} {A} gained = (a b c : W) (ys : List A) → gained a [] b → gained b ys c → gained a ys c
+-- What the loop passes is what the machine does.
+serving_is : (c : Config) (seed : List ℕ) (events : List Event) (answer : Served) (count limit : ℕ) → Ends answer false count limit
+    → passes core_machine (draws_of seed) 0 (core_opening c) events answer ≡ machine_passes c seed events ++ last_passes (status_from answer) (machine_after c seed events)
+serving_is c seed events answer count limit ends =
+    let core = state_after core_machine (draws_of seed) 0 (core_opening c) events in
+    ap (λ l. l ++ serve.last_passes answer (wake core.machine)) (run_passes c seed events)
+    ∙ ap (λ (r : Running). machine_passes c seed events ++ serve.last_passes answer (wake r.machine)) (run_state c seed events)
+    ∙ ap (λ l. machine_passes c seed events ++ l) (last_is answer count limit (machine_after c seed events) ends)
 
 -- The core began with a configuration, and the words are those of a seed from the first on.
-begun : {W : Type 0} (hears : W → List Event → W → Type 0) (wakes : W → List (Option ℕ) → W → Type 0)
-    (does : W → List Action → W → Type 0) (last : W → Option Heard) (old new : W) (c : Config) (seed : List ℕ) (drawn : Drawn) (start core : Running)
-    (limit : ℕ) (answer : Served) (events : List Event) → drawn ≡ record { seed = seed; given = 0 } → start ≡ core_opening c
-    → Serves hears wakes does last core_machine (draws_of drawn.seed) drawn.given start core old new limit answer events
-    → Serves hears wakes does last core_machine (draws_of seed) 0 (core_opening c) core old new limit answer events
-begun hears wakes does last old new c seed drawn start core limit answer events words opened s =
-    subst (λ b. Serves hears wakes does last core_machine (draws_of seed) 0 b core old new limit answer events) opened
-    (subst (λ d. Serves hears wakes does last core_machine (draws_of d.seed) d.given start core old new limit answer events) words s)
 
-serves_all : {W : Type 0} (hears : W → List Event → W → Type 0) (wakes : W → List (Option ℕ) → W → Type 0)
-    (does : W → List Action → W → Type 0) (last : W → Option Heard) (kept : W → Option (List ℕ × List ℕ)) (faults : W → ℕ)
-    (used_up : W → Type 0) (broken : W → ℕ → Type 0) (old mid new : W) (c : Config) (seed : List ℕ) (limit : ℕ) (answer : Served) (events : List Event) (core : Running)
-    → Skips hears → Skips wakes → Skips does → hears old [] mid → wakes old [] mid → does old [] mid → faults old ≤ faults mid
-    → kept mid ≡ Some (c.ip, c.ipsend) → kept new ≡ kept mid
-    → Serves hears wakes does last core_machine (draws_of seed) 0 (core_opening c) core mid new limit answer events
-    → Justified answer (used_up new) (broken new) (faults mid) (faults new)
-    → Serving hears wakes does last kept faults used_up broken old new c seed limit (status_from answer) core
-serves_all hears wakes does last kept faults used_up broken old mid new c seed limit answer events core skip_heard skip_wakes skip_done heard waited done later listened same s just =
-    let behind : core ≡ record { rules = rules_of c; machine = machine_after c seed events; handled = length events } = s.ran.state ∙ run_state c seed events in
-    let end : serve.last_wake answer (wake core.machine) ≡ last_wake (status_from answer) (machine_after c seed events) =
-    ap (λ r. serve.last_wake answer (wake r.machine)) behind ∙ last_wakes answer (length events) limit (machine_after c seed events) s.ends in
-    let woken : wakes_before core_machine (draws_of seed) 0 (core_opening c) events ++ serve.last_wake answer (wake core.machine)
-    ≡ machine_wakes c seed events ++ last_wake (status_from answer) (machine_after c seed events) =
-    ap (λ l. l ++ serve.last_wake answer (wake core.machine)) (run_wakes c seed events) ∙ ap (λ l. machine_wakes c seed events ++ l) end in
-    record {
-      events = events;
-      heard = skip_heard old mid new events heard s.ran.heard;
-      done = skip_done old mid new (machine_run c seed events) done (subst (λ l. does mid l new) (run_is c seed events) s.ran.done);
-      woken = skip_wakes old mid new (machine_wakes c seed events ++ last_wake (status_from answer) (machine_after c seed events)) waited (subst (λ l. wakes mid l new) woken s.woken);
-      kept_addresses = same ∙ listened;
-      core_is = behind;
-      closes = closes answer (last_after (last mid) events) (last new) (length events) limit (used_up new) (broken new) (faults old) (faults mid) (faults new) s.answered s.ends just later;
-    }
+passed_begun : {W : Type 0} (history : W → List Exchange → W → Type 0) (old new : W) (c : Config) (seed : List ℕ) (drawn : Drawn) (start : Running)
+    (answer : Served) (events : List Event) → drawn ≡ record { seed = seed; given = 0 } → start ≡ core_opening c
+    → history old (passes core_machine (draws_of drawn.seed) drawn.given start events answer) new
+    → history old (passes core_machine (draws_of seed) 0 (core_opening c) events answer) new
+passed_begun history old new c seed drawn start answer events words opened h =
+    subst (λ b. history old (passes core_machine (draws_of seed) 0 b events answer) new) opened
+    (subst (λ d. history old (passes core_machine (draws_of d.seed) d.given start events answer) new) words h)
 
--- A world that listens kept the addresses, and a core served its events.
-pub serves : {W : Type 0} (hears : W → List Event → W → Type 0) (wakes : W → List (Option ℕ) → W → Type 0)
-    (does : W → List Action → W → Type 0) (last : W → Option Heard) (kept : W → Option (List ℕ × List ℕ)) (faults : W → ℕ)
-    (used_up : W → Type 0) (broken : W → ℕ → Type 0) (old mid new : W) (c : Config) (seed : List ℕ) (drawn : Drawn) (start core : Running)
-    (limit : ℕ) (answer : Served) (status : Status) (events : List Event)
-    → Skips hears → Skips wakes → Skips does → hears old [] mid → wakes old [] mid → does old [] mid → faults old ≤ faults mid
-    → kept mid ≡ Some (c.ip, c.ipsend) → kept new ≡ kept mid
+ran_begun : (c : Config) (seed : List ℕ) (drawn : Drawn) (start core : Running) (limit : ℕ)
+    (answer : Served) (events : List Event) → drawn ≡ record { seed = seed; given = 0 } → start ≡ core_opening c
+    → Ran core_machine (draws_of drawn.seed) drawn.given start core limit events answer
+    → Ran core_machine (draws_of seed) 0 (core_opening c) core limit events answer
+ran_begun c seed drawn start core limit answer events words opened r =
+    subst (λ b. Ran core_machine (draws_of seed) 0 b core limit events answer) opened
+    (subst (λ d. Ran core_machine (draws_of d.seed) d.given start core limit events answer) words r)
+
+-- One exchange, and then others.
+abbrev pub Follows : {W : Type 0} → (W → List Exchange → W → Type 0) → Type 0
+Follows {W} history = (a b c : W) (x : Exchange) (ys : List Exchange) → history a (x ∷ []) b → history b ys c → history a (x ∷ ys) c
+
+-- A world listened, and a core served its events.
+pub serves : {W : Type 0} (history : W → List Exchange → W → Type 0) (used_up : W → Type 0) (broken : W → ℕ → Type 0) (faults : W → ℕ)
+    (old mid new : W) (c : Config) (seed : List ℕ) (drawn : Drawn) (start core : Running) (limit : ℕ) (answer : Served) (status : Status) (events : List Event)
+    → Follows history → history old (listened c.ip c.ipsend true ∷ []) mid
     → drawn ≡ record { seed = seed; given = 0 } → start ≡ core_opening c
-    → Serves hears wakes does last core_machine (draws_of drawn.seed) drawn.given start core mid new limit answer events
+    → history mid (passes core_machine (draws_of drawn.seed) drawn.given start events answer) new
+    → Ran core_machine (draws_of drawn.seed) drawn.given start core limit events answer
     → Justified answer (used_up new) (broken new) (faults mid) (faults new) → status ≡ status_from answer
-    → Serving hears wakes does last kept faults used_up broken old new c seed limit status core
-serves hears wakes does last kept faults used_up broken old mid new c seed drawn start core limit answer status events
-    skip_heard skip_wakes skip_done heard waited done later listened same words opened s just ended =
-    let s' = begun hears wakes does last mid new c seed drawn start core limit answer events words opened s in
-    subst (λ a. Serving hears wakes does last kept faults used_up broken old new c seed limit a core) (sym ended)
-    (serves_all hears wakes does last kept faults used_up broken old mid new c seed limit answer events core skip_heard skip_wakes skip_done heard waited done later listened same s' just)
+    → Serving history used_up broken old new c seed limit status core
+serves history used_up broken faults old mid new c seed drawn start core limit answer status events follows listening words opened passed ran just ended =
+    let r = ran_begun c seed drawn start core limit answer events words opened ran in
+    let h = passed_begun history mid new c seed drawn start answer events words opened passed in
+    let all = follows old mid new (listened c.ip c.ipsend true) _ listening (subst (λ l. history mid l new) (serving_is c seed events answer (length events) limit r.ends) h) in
+    subst (λ a. Serving history used_up broken old new c seed limit a core) (sym ended) (record {
+      events = events;
+      bounded = r.bounded;
+      passed = all;
+      core_is = r.state ∙ run_state c seed events;
+      closes = closes answer (length events) limit (used_up new) (broken new) (faults mid) (faults new) r.ends just;
+    })
+
+-- How the world answered `listen`
+
+pub went_well : {T E : Type 0} (r : Result T E) → is_err r ≡ false → is_ok r ≡ true
+went_well (Ok x) e = refl
+went_well (Err x) e = cc
+
+pub went_wrong : {T E : Type 0} (r : Result T E) → is_err r ≡ true → is_ok r ≡ false
+went_wrong (Ok x) e = cc
+went_wrong (Err x) e = refl
+
+pub on_ok : {T E : Type 0} (r : Result T E) (P : Type 0) → is_err r ≡ false → OnOk r P → P
+on_ok (Ok x) P e p = p
+on_ok (Err x) P e p = cc
+
+-- Nothing was served where the world failed to listen.
+pub unserved : {W : Type 0} (history : W → List Exchange → W → Type 0) (used_up : W → Type 0) (broken : W → ℕ → Type 0) (old new : W) (configured : Config → Type 0)
+    (c : Config) (taken : List ℕ) (left : Option (List ℕ)) (limit : ℕ) (status : Status) (core : Option Running)
+    → status ≡ WorldFault → core ≡ None → configured c → length taken ≡ 32 → history old (listened c.ip c.ipsend false ∷ []) new
+    → IsSession history used_up broken old new configured taken left limit status core
+unserved history used_up broken old new configured c taken left limit status core fault none fits whole passed =
+    subst (λ k. IsSession history used_up broken old new configured taken left limit status k) (sym none)
+    (subst (λ s. IsSession history used_up broken old new configured taken left limit s None) (sym fault) (whole, (c, fits, passed)))
+
+-- The world didn't fail behind the loop.
+pub served_fine : (answer : Served) (status : Status) (P : Type 0) → status ≡ status_from answer → status ≢ WorldFault → IfServed answer P → P
+served_fine served.Finished status P is other p = p
+served_fine served.Spent status P is other p = p
+served_fine served.Ended status P is other p = p
+served_fine served.Failed status P is other p = absurd (other is)
+served_fine (served.Bad k) status P is other p = p
 
 -- Which variable is bad
 

@@ -1,24 +1,23 @@
 -- What serving comes to.
-use Rattle.std.specs.Prelude.{◌≡◌, ℕ, ◌<◌, List, [], ◌∷◌, ◌++◌, length, map}
+use Rattle.std.specs.Prelude.{◌≡◌, ℕ, ◌<◌, true, false, List, [], ◌∷◌, ◌++◌, length, flat_map, All}
 use Rattle.std.specs.declared.option.Option.{Option}
 use Rattle.std.specs.declared.option.Option.TheVariants.{None, Some}
 use Rattle.std.specs.Io.KnownBytes.{IsAtEnd}
 use Rattle.std.specs.Prelude.{Result, Ok, Err}
-use Rattle.dc_model.specs.Event.{Event, Action}
+use Rattle.dc_model.specs.Event.{Event, IsEvent, line}
+use Rattle.dc_model.specs.Line.{line_starting}
 use Rattle.dc_machine.specs.Machine.{Machine, wake}
 use Rattle.dc_machine.specs.Run.{Taken, seeded_run, opening, last_of}
 use Rattle.dc_rules.specs.Settings.{rules_of}
 use Rattle.dc_rules.specs.declared.config.Config.{Config}
-use Rattle.dc_event.specs.Causes.{Rose}
-use Rattle.dc_event.specs.declared.answers.Heard.{Heard}
-use Rattle.dc_event.specs.declared.answers.Heard.TheVariants as heard
+use Rattle.dc_event.specs.History.{Exchange, listened, asked, did, gave, ended, failed, bad, done_all}
 use Rattle.dc_config.specs.Environment.{Environment}
 use Rattle.dc_config.specs.Tree.{Tree}
 use Rattle.dc_config.specs.Conf.{conf_of}
 use Rattle.dc_config.specs.declared.error.ConfigError.{ConfigError}
 use Rattle.dc_config.specs.declared.error.ConfigError.TheVariants as config
 use Rattle.dc_core.specs.Running.{Running}
-use Rattle.dc_commands.specs.Replay.{cache_of, machine_run}
+use Rattle.dc_commands.specs.Replay.{cache_of}
 use Rattle.dc_serve.specs.declared.Served.{Served}
 use Rattle.dc_serve.specs.declared.Served.TheVariants as served
 use Rattle.dc_commands.specs.declared.serving.Seed.{Seed}
@@ -43,48 +42,60 @@ run_with c seed events = seeded_run (rules_of c) seed (cache_of c) events
 unfoldable pub machine_after : Config → List ℕ → List Event → Machine
 machine_after c seed events = last_of (opening (cache_of c)) (run_with c seed events)
 
--- The wake before each of the events, which is that of the run's state.
-unfoldable pub machine_wakes : Config → List ℕ → List Event → List (Option ℕ)
-machine_wakes c seed events = map (λ t. wake t.before) (run_with c seed events)
+-- What passes at one event of a run: the world is asked with the machine's wake, gives the event, and the event's actions are done.
+abbrev pub at_event : Taken → List Exchange
+at_event t = asked (wake t.before) (gave t.event) ∷ done_all t.stepped.actions
 
--- The wake of the call of `next` that gave no event, where there was one.
-abbrev pub last_wake : Status → Machine → List (Option ℕ)
-last_wake Spent m = []
-last_wake Done m = wake m ∷ []
-last_wake (BadScript k) m = wake m ∷ []
-last_wake WorldFault m = wake m ∷ []
-last_wake status m = []
+-- What passes while the machine serves these events: the opening line is written, and then each event is handled.
+unfoldable pub machine_passes : Config → List ℕ → List Event → List Exchange
+machine_passes c seed events = did (line line_starting) ∷ flat_map at_event (run_with c seed events)
+
+-- The call of `next` that gave no event, where there was one.
+abbrev pub last_passes : Status → Machine → List Exchange
+last_passes Done m = asked (wake m) ended ∷ []
+last_passes (BadScript k) m = asked (wake m) (bad k) ∷ []
+last_passes WorldFault m = asked (wake m) failed ∷ []
+last_passes status m = []
+
+-- All that passes in a session: the world listens on the configured addresses, the machine serves these events, and then no event is given,
+-- where the session ended so.
+abbrev pub session_passes : Config → List ℕ → List Event → Status → List Exchange
+session_passes c seed events status = listened c.ip c.ipsend true ∷ (machine_passes c seed events ++ last_passes status (machine_after c seed events))
 
 -- How serving ends: by what the world answered last, or where as many events were handled as are allowed.
-abbrev pub Closes : Status → (last : Option Heard) → (count limit : ℕ) → (used_up : Type 0) → (broken : ℕ → Type 0) → (before now : ℕ) → Type 0
-Closes Done last count limit used_up broken before now = (last ≡ Some heard.End) × (count < limit) × used_up
-Closes Spent last count limit used_up broken before now = count ≡ limit
-Closes (BadScript k) last count limit used_up broken before now = (last ≡ Some (heard.Bad k)) × (count < limit) × broken k
-Closes WorldFault last count limit used_up broken before now = (last ≡ Some heard.Failed) × (count < limit) × Rose before now
-Closes Usage last count limit used_up broken before now = ⊥
-Closes (BadVariable v) last count limit used_up broken before now = ⊥
-Closes NoRoot last count limit used_up broken before now = ⊥
-Closes (BadZone f) last count limit used_up broken before now = ⊥
-Closes (BadPermit f) last count limit used_up broken before now = ⊥
-Closes FilesFault last count limit used_up broken before now = ⊥
-Closes SeedShort last count limit used_up broken before now = ⊥
-Closes ReadFault last count limit used_up broken before now = ⊥
-Closes WriteFault last count limit used_up broken before now = ⊥
-Closes NoMemory last count limit used_up broken before now = ⊥
+abbrev pub Closes : Status → (count limit : ℕ) → (used_up : Type 0) → (broken : ℕ → Type 0) → Type 0
+Closes Done count limit used_up broken = (count < limit) × used_up
+Closes Spent count limit used_up broken = count ≡ limit
+Closes (BadScript k) count limit used_up broken = (count < limit) × broken k
+Closes WorldFault count limit used_up broken = count < limit
+Closes Usage count limit used_up broken = ⊥
+Closes (BadVariable v) count limit used_up broken = ⊥
+Closes NoRoot count limit used_up broken = ⊥
+Closes (BadZone f) count limit used_up broken = ⊥
+Closes (BadPermit f) count limit used_up broken = ⊥
+Closes FilesFault count limit used_up broken = ⊥
+Closes SeedShort count limit used_up broken = ⊥
+Closes ReadFault count limit used_up broken = ⊥
+Closes WriteFault count limit used_up broken = ⊥
+Closes NoMemory count limit used_up broken = ⊥
 
--- Events were served between two states of the world, with a configuration and a seed: all that was heard, and the actions and the wakes are
--- the machine's.
-pub record Serving {W : Type 0} (hears : W → List Event → W → Type 0) (wakes : W → List (Option ℕ) → W → Type 0)
-    (does : W → List Action → W → Type 0) (last : W → Option Heard) (kept : W → Option (List ℕ × List ℕ)) (faults : W → ℕ)
-    (used_up : W → Type 0) (broken : W → ℕ → Type 0)
+-- Events were served between two states of the world, with a configuration and a seed: this passed, and the core is that of the machine.
+pub record Serving {W : Type 0} (history : W → List Exchange → W → Type 0) (used_up : W → Type 0) (broken : W → ℕ → Type 0)
     (old new : W) (c : Config) (seed : List ℕ) (limit : ℕ) (status : Status) (core : Running) : Type 0 where
   pub events : List Event
-  pub heard : hears old events new
-  pub done : does old (machine_run c seed events) new
-  pub woken : wakes old (machine_wakes c seed events ++ last_wake status (machine_after c seed events)) new
-  pub kept_addresses : kept new ≡ Some (c.ip, c.ipsend)
+  pub bounded : All IsEvent events
+  pub passed : history old (session_passes c seed events status) new
   pub core_is : core ≡ record { rules = rules_of c; machine = machine_after c seed events; handled = length events }
-  pub closes : Closes status (last new) (length events) limit (used_up new) (broken new) (faults old) (faults new)
+  pub closes : Closes status (length events) limit (used_up new) (broken new)
+
+-- The configuration is the one that is defined, where the files tell it.
+abbrev pub IsConfigured : Environment → Option Tree → Config → Type 0
+IsConfigured env tree c = (t : Tree) → tree ≡ Some t → conf_of env t ≡ Ok c
+
+-- What passed where nothing was served: nothing, or the world was asked once to listen on the configured addresses, and failed.
+abbrev pub Unserved : {W : Type 0} (history : W → List Exchange → W → Type 0) (old new : W) (configured : Config → Type 0) → Status → Type 0
+Unserved history old new configured WorldFault = (c : Config) × configured c × history old (listened c.ip c.ipsend false ∷ []) new
+Unserved history old new configured status = history old [] new
 
 -- Why nothing was served, by the bytes that were taken of the source: nothing was taken where the configuration was refused.
 abbrev pub Refused : Status → (taken : List ℕ) → (left : Option (List ℕ)) → Type 0
@@ -121,17 +132,13 @@ FitsConf (BadScript k) conf = (c : Config) × (conf ≡ Ok c)
 FitsConf Usage conf = ⊥
 FitsConf WriteFault conf = ⊥
 
--- What a session tells, by the core that it leaves: none, and nothing was heard, done or waited for; or one, and the seed was taken, the
--- configuration is the one that is defined where the files tell it, and events were served.
-abbrev pub Tells : {W : Type 0} (hears : W → List Event → W → Type 0) (wakes : W → List (Option ℕ) → W → Type 0)
-    (does : W → List Action → W → Type 0) (last : W → Option Heard) (kept : W → Option (List ℕ × List ℕ)) (faults : W → ℕ)
-    (used_up : W → Type 0) (broken : W → ℕ → Type 0)
-    (old new : W) (env : Environment) (tree : Option Tree) (taken : List ℕ) (left : Option (List ℕ)) (limit : ℕ) (status : Status) → Option Running → Type 0
-Tells hears wakes does last kept faults used_up broken old new env tree taken left limit status None =
-    hears old [] new × wakes old [] new × does old [] new × Refused status taken left
-Tells hears wakes does last kept faults used_up broken old new env tree taken left limit status (Some core) =
-    (c : Config) × ((t : Tree) → tree ≡ Some t → conf_of env t ≡ Ok c) × (length taken ≡ 32)
-    × Serving hears wakes does last kept faults used_up broken old new c taken limit status core
+-- What a session is, by the core that it leaves: none, and nothing was served; or one, and the seed was taken, and events were served with
+-- the configuration.
+abbrev pub IsSession : {W : Type 0} (history : W → List Exchange → W → Type 0) (used_up : W → Type 0) (broken : W → ℕ → Type 0)
+    (old new : W) (configured : Config → Type 0) (taken : List ℕ) (left : Option (List ℕ)) (limit : ℕ) (status : Status) → Option Running → Type 0
+IsSession history used_up broken old new configured taken left limit status None = Refused status taken left × Unserved history old new configured status
+IsSession history used_up broken old new configured taken left limit status (Some core) =
+    (c : Config) × configured c × (length taken ≡ 32) × Serving history used_up broken old new c taken limit status core
 
 -- What taking a seed says of the bytes that were taken: they are the seed; or the source ended, or failed, before them.
 abbrev pub SeedStands : Seed → (taken : List ℕ) → (left : Option (List ℕ)) → Type 0
@@ -139,13 +146,19 @@ SeedStands (Whole seed) taken left = (taken ≡ seed) × (length taken ≡ 32)
 SeedStands Short taken left = (length taken < 32) × IsAtEnd left
 SeedStands Failed taken left = length taken < 32
 
+-- This holds where the source didn't fail.
+abbrev pub IfSeed : Seed → Type 0 → Type 0
+IfSeed (Whole seed) P = P
+IfSeed Short P = P
+IfSeed Failed P = Unit {0}
+
 -- The status behind the loop. The core is never finished.
 abbrev pub status_from : Served → Status
 status_from served.Finished = Done
 status_from served.Ended = Done
 status_from served.Spent = Spent
 status_from served.Failed = WorldFault
-status_from (served.Bad line) = BadScript line
+status_from (served.Bad k) = BadScript k
 
 -- A fault of files, source or world, each with a count that rose, or want of memory.
 abbrev pub IsFault : Status → Type 0

@@ -1,5 +1,5 @@
 //! The top call: what the words of a command ask for is done.
-ghost use Rattle.std.specs.Prelude.{◌≡◌, ◌↔◌, ℕ, List, ◌++◌, Some};
+ghost use Rattle.std.specs.Prelude.{◌≡◌, ◌≢◌, ◌↔◌, ℕ, List, ◌++◌, Some};
 ghost use Rattle.std.specs.declared.option.Option.{Option};
 ghost use Rattle.std.specs.Io.KnownBytes.{IsAtEnd};
 ghost use Rattle.dc_event.specs.Causes.{Rose};
@@ -12,7 +12,7 @@ ghost use Rattle.dc_script.specs.Head.{MayFollow, head_of};
 ghost use Rattle.dc_play.specs.Playing.{limit_of};
 ghost use Rattle.dc_commands.specs.Command.{command_of};
 ghost use Rattle.dc_commands.specs.Replay.{Keeps, outcome, whole_text};
-ghost use Rattle.dc_commands.specs.Serving.{Tells, FitsConf};
+ghost use Rattle.dc_commands.specs.Serving.{IsSession, IsConfigured, FitsConf};
 
 use crate::replay::replay_command;
 use crate::serving::serve_command;
@@ -65,7 +65,7 @@ pub fn dnscache<F: Files, S: Source, K: Sink, W: World>(
     ensures replay_end { command_of words.now ≡ Command.Replay → result ≡ Status.Done → IsAtEnd (S.left source.new) }
     ensures replay_memory { command_of words.now ≡ Command.Replay → result ≡ Status.NoMemory → sink.new ≡ sink.old }
     ensures served { command_of words.now ≡ Command.Serve → (taken : List ℕ) × ((core : Option Running) × S.took source.old taken source.new
-        × Tells W.heard W.wakes W.done W.last W.kept W.faults W.used_up W.broken world.old world.new env.now (F.tree files.old) taken (S.left source.new) (limit_of turns) result core) }
+        × IsSession W.history W.used_up W.broken world.old world.new (IsConfigured env.now (F.tree files.old)) taken (S.left source.new) (limit_of turns) result core) }
     ensures conf { command_of words.now ≡ Command.Serve → (t : Tree) → F.tree files.old ≡ Some t → FitsConf result (conf_of env.now t) }
     ensures variable { command_of words.now ≡ Command.Serve → (v : Named) → (result ≡ Status.BadVariable v) ↔ (bad_variable env.now ≡ Some v) }
     ensures serve_alone { command_of words.now ≡ Command.Serve → sink.new ≡ sink.old }
@@ -73,6 +73,10 @@ pub fn dnscache<F: Files, S: Source, K: Sink, W: World>(
     ensures read_fault { result ≡ Status.ReadFault → Rose (S.faults source.old) (S.faults source.new) }
     ensures write_fault { result ≡ Status.WriteFault → Rose (K.faults sink.old) (K.faults sink.new) }
     ensures world_fault { result ≡ Status.WorldFault → Rose (W.faults world.old) (W.faults world.new) }
+    ensures files_stay { result ≢ Status.FilesFault → F.faults files.new ≡ F.faults files.old }
+    ensures read_stays { result ≢ Status.ReadFault → result ≢ Status.WriteFault → S.faults source.new ≡ S.faults source.old }
+    ensures write_stays { result ≢ Status.WriteFault → K.faults sink.new ≡ K.faults sink.old }
+    ensures world_stays { result ≢ Status.WorldFault → W.faults world.new ≡ W.faults world.old }
 {
     match Command::of(words) {
         Command::Serve => serve_command(alloc, env, files, source, world, turns).status,

@@ -1,5 +1,5 @@
 //! Replaying a script: its actions, in the order in which they come, as text.
-ghost use Rattle.std.specs.Prelude.{◌≡◌, ℕ, List, ◌++◌, IfOk};
+ghost use Rattle.std.specs.Prelude.{◌≡◌, ◌≢◌, ℕ, List, ◌++◌, IfOk};
 ghost use Rattle.std.specs.Io.KnownBytes.{IsAtEnd};
 ghost use Rattle.dc_machine.specs.Run.{opening};
 ghost use Rattle.dc_rules.specs.Settings.{rules_of};
@@ -38,6 +38,8 @@ pub fn replay_command<S: Source, K: Sink>(
         × ((tail : List ℕ) → MayFollow (S.left source.new) tail → Keeps (outcome (limit_of turns) (head_of (bytes ++ tail))) (whole_text (head_of bytes)) text result)) }
     ensures read { result ≡ Status.ReadFault → Rose (S.faults source.old) (S.faults source.new) }
     ensures write { result ≡ Status.WriteFault → Rose (K.faults sink.old) (K.faults sink.new) }
+    ensures read_stays { result ≢ Status.ReadFault → result ≢ Status.WriteFault → S.faults source.new ≡ S.faults source.old }
+    ensures write_stays { result ≢ Status.WriteFault → K.faults sink.new ≡ K.faults sink.old }
     ensures end { result ≡ Status.Done → IsAtEnd (S.left source.new) }
     ensures memory { result ≡ Status.NoMemory → sink.new ≡ sink.old }
 {

@@ -1,5 +1,5 @@
 //! Serving clients.
-ghost use Rattle.std.specs.Prelude.{◌≡◌, ◌≤◌, ◌↔◌, ℕ, List, IfOk, Some, None};
+ghost use Rattle.std.specs.Prelude.{◌≡◌, ◌≢◌, ◌≤◌, ◌↔◌, ℕ, List, IfOk, Some, None};
 ghost use Rattle.dc_event.specs.Causes.{Rose};
 ghost use Rattle.dc_config.specs.Tree.{Tree};
 ghost use Rattle.dc_config.specs.Conf.{conf_of};
@@ -9,7 +9,7 @@ ghost use Rattle.dc_machine.specs.Run.{opening};
 ghost use Rattle.dc_rules.specs.Settings.{rules_of};
 ghost use Rattle.dc_play.specs.Playing.{limit_of};
 ghost use Rattle.dc_commands.specs.Replay.{cache_of};
-ghost use Rattle.dc_commands.specs.Serving.{Tells, FitsConf, SeedStands, status_from};
+ghost use Rattle.dc_commands.specs.Serving.{IsSession, IsConfigured, FitsConf, SeedStands, IfSeed, status_from};
 
 use crate::replay::core_of;
 use crate::status::Status;
@@ -57,6 +57,7 @@ enum Seed {
 fn take_seed<S: Source>(source: &mut S) -> Seed
     ensures took { (bytes : List ℕ) × S.took source.old bytes source.new × SeedStands result bytes (S.left source.new) }
     ensures later { S.faults source.old ≤ S.faults source.new }
+    ensures stays { IfSeed result (S.faults source.new ≡ S.faults source.old) }
     ensures failed { result ≡ Seed.Failed → Rose (S.faults source.old) (S.faults source.new) }
 {
     let mut seed = [0; SEED];
@@ -106,13 +107,16 @@ pub fn serve_command<F: Files, S: Source, W: World>(
     turns: u64,
 ) -> Session
     ensures told { (taken : List ℕ) × S.took source.old taken source.new
-        × Tells W.heard W.wakes W.done W.last W.kept W.faults W.used_up W.broken world.old world.new env.now (F.tree files.old) taken (S.left source.new) (limit_of turns) result.status result.core }
+        × IsSession W.history W.used_up W.broken world.old world.new (IsConfigured env.now (F.tree files.old)) taken (S.left source.new) (limit_of turns) result.status result.core }
     ensures conf { (t : Tree) → F.tree files.old ≡ Some t → FitsConf result.status (conf_of env.now t) }
     ensures variable { (v : Named) → (result.status ≡ Status.BadVariable v) ↔ (bad_variable env.now ≡ Some v) }
     ensures files { F.tree files.new ≡ F.tree files.old }
     ensures files_fault { result.status ≡ Status.FilesFault → Rose (F.faults files.old) (F.faults files.new) }
     ensures read_fault { result.status ≡ Status.ReadFault → Rose (S.faults source.old) (S.faults source.new) }
     ensures world_fault { result.status ≡ Status.WorldFault → Rose (W.faults world.old) (W.faults world.new) }
+    ensures files_stay { result.status ≢ Status.FilesFault → F.faults files.new ≡ F.faults files.old }
+    ensures read_stays { result.status ≢ Status.ReadFault → S.faults source.new ≡ S.faults source.old }
+    ensures world_stays { result.status ≢ Status.WorldFault → W.faults world.new ≡ W.faults world.old }
 {
     let config = match load(alloc, env, files) {
         Ok(config) => config,

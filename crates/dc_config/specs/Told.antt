@@ -18,3 +18,17 @@ IsReading (read.Bytes bytes) file = file ≡ Some bytes.items
 IsReading read.Absent file = file ≡ None
 IsReading read.Failed file = Unit {0}
 IsReading read.NoMemory file = Unit {0}
+
+-- This holds where the call didn't answer its failure.
+
+abbrev pub IfListed : Listed → Type 0 → Type 0
+IfListed (listed.Names names) P = P
+IfListed listed.Absent P = P
+IfListed listed.Failed P = Unit {0}
+IfListed listed.NoMemory P = P
+
+abbrev pub IfRead : FileRead → Type 0 → Type 0
+IfRead (read.Bytes bytes) P = P
+IfRead read.Absent P = P
+IfRead read.Failed P = Unit {0}
+IfRead read.NoMemory P = P

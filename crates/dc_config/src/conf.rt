@@ -1,5 +1,5 @@
 //! The whole configuration.
-ghost use Rattle.std.specs.Prelude.{◌≡◌, ◌≤◌, ◌↔◌, Some};
+ghost use Rattle.std.specs.Prelude.{◌≡◌, ◌≢◌, ◌≤◌, ◌↔◌, Some};
 ghost use Rattle.dc_event.specs.Causes.{Rose};
 ghost use Rattle.dc_config.specs.Tree.{Tree};
 ghost use Rattle.dc_config.specs.Answered.{Answers};
@@ -21,6 +21,7 @@ pub fn load<F: Files>(alloc: Global, env: &Env, files: &mut F) -> Result<Config,
     ensures variable { (v : Named) → (result ≡ Err (ConfigError.BadVariable v)) ↔ (bad_variable env.now ≡ Some v) }
     ensures same { F.tree files.new ≡ F.tree files.old }
     ensures later { F.faults files.old ≤ F.faults files.new }
+    ensures stays { result ≢ Err ConfigError.FilesFault → F.faults files.new ≡ F.faults files.old }
     ensures failed { result ≡ Err ConfigError.FilesFault → Rose (F.faults files.old) (F.faults files.new) }
 {
     let read = read_variables(env)?;

@@ -2,7 +2,7 @@
 ghost use Rattle.std.specs.Prelude.{◌≡◌, ℕ, ◌≤◌, Option, Some};
 ghost use Rattle.dc_event.specs.Causes.{Rose};
 ghost use Rattle.dc_config.specs.Tree.{Tree};
-ghost use Rattle.dc_config.specs.Told.{IsListing, IsReading};
+ghost use Rattle.dc_config.specs.Told.{IsListing, IsReading, IfListed, IfRead};
 
 use crate::FileName;
 use std::alloc::Global;
@@ -45,6 +45,7 @@ pub trait Files {
         ensures same { tree self.new ≡ tree self.old }
         ensures names { (t : Tree) → tree self.old ≡ Some t → IsListing result (t.names folder.now) }
         ensures later { faults self.old ≤ faults self.new }
+        ensures stays { IfListed result (faults self.new ≡ faults self.old) }
         ensures failed { result ≡ Listed.Failed → Rose (faults self.old) (faults self.new) };
 
     /// The bytes of a file.
@@ -52,6 +53,7 @@ pub trait Files {
         ensures same { tree self.new ≡ tree self.old }
         ensures bytes { (t : Tree) → tree self.old ≡ Some t → IsReading result (t.bytes path.now) }
         ensures later { faults self.old ≤ faults self.new }
+        ensures stays { IfRead result (faults self.new ≡ faults self.old) }
         ensures failed { result ≡ FileRead.Failed → Rose (faults self.old) (faults self.new) };
 
     /// How often a call failed. The count stands still at 2^64 - 1.

@@ -33,6 +33,7 @@ fn names_in<F: Files>(
     ensures named { (v : Named) → result ≢ Err (ConfigError.BadVariable v) }
     ensures same { F.tree files.new ≡ F.tree files.old }
     ensures later { F.faults files.old ≤ F.faults files.new }
+    ensures stays { result ≢ Err ConfigError.FilesFault → F.faults files.new ≡ F.faults files.old }
     ensures failed { result ≡ Err ConfigError.FilesFault → Rose (F.faults files.old) (F.faults files.new) }
 {
     match files.list(alloc, folder) {
@@ -83,6 +84,7 @@ fn add_zone_file<F: Files>(
     ensures named { (v : Named) → result ≢ Err (ConfigError.BadVariable v) }
     ensures same { F.tree files.new ≡ F.tree files.old }
     ensures later { F.faults files.old ≤ F.faults files.new }
+    ensures stays { result ≢ Err ConfigError.FilesFault → F.faults files.new ≡ F.faults files.old }
     ensures failed { result ≡ Err ConfigError.FilesFault → Rose (F.faults files.old) (F.faults files.new) }
 {
     if !is_shown(&file) {
@@ -114,6 +116,7 @@ fn add_zone_files<F: Files>(
     ensures named { (v : Named) → result ≢ Err (ConfigError.BadVariable v) }
     ensures same { F.tree files.new ≡ F.tree files.old }
     ensures later { F.faults files.old ≤ F.faults files.new }
+    ensures stays { result ≢ Err ConfigError.FilesFault → F.faults files.new ≡ F.faults files.old }
     ensures failed { result ≡ Err ConfigError.FilesFault → Rose (F.faults files.old) (F.faults files.new) }
 {
     let mut rest = names.into_iter();
@@ -151,6 +154,7 @@ pub(crate) fn zones_of<F: Files>(alloc: Global, files: &mut F) -> Result<Zones, 
     ensures named { (v : Named) → result ≢ Err (ConfigError.BadVariable v) }
     ensures same { F.tree files.new ≡ F.tree files.old }
     ensures later { F.faults files.old ≤ F.faults files.new }
+    ensures stays { result ≢ Err ConfigError.FilesFault → F.faults files.new ≡ F.faults files.old }
     ensures failed { result ≡ Err ConfigError.FilesFault → Rose (F.faults files.old) (F.faults files.new) }
 {
     let names = names_in(alloc, files, "servers")?;
@@ -196,6 +200,7 @@ pub(crate) fn permit_of<F: Files>(alloc: Global, files: &mut F) -> Result<Permit
     ensures named { (v : Named) → result ≢ Err (ConfigError.BadVariable v) }
     ensures same { F.tree files.new ≡ F.tree files.old }
     ensures later { F.faults files.old ≤ F.faults files.new }
+    ensures stays { result ≢ Err ConfigError.FilesFault → F.faults files.new ≡ F.faults files.old }
     ensures failed { result ≡ Err ConfigError.FilesFault → Rose (F.faults files.old) (F.faults files.new) }
 {
     let names = names_in(alloc, files, "ip")?;

@@ -1,9 +1,9 @@
 //! Files in memory.
-ghost use Rattle.std.specs.Prelude.{◌≡◌, ◌≢◌, ℕ, ◌≤◌, ◌↔◌, [], IfOk, IsTrue, Option, Some};
+ghost use Rattle.std.specs.Prelude.{◌≡◌, ◌≢◌, ℕ, ◌≤◌, ◌↔◌, false, [], IfOk, IsTrue, Option, Some};
 ghost use Rattle.std.specs.Option.{option_copied};
 ghost use Rattle.dc_event.specs.Causes.{Rose};
 ghost use Rattle.dc_config.specs.Tree.{Tree};
-ghost use Rattle.dc_config.specs.Told.{IsListing, IsReading};
+ghost use Rattle.dc_config.specs.Told.{IsListing, IsReading, IfListed, IfRead};
 ghost use Rattle.dc_config.specs.Kept as kept;
 
 use crate::{FileName, FileRead, Files, Listed, NoMemory};
@@ -111,6 +111,7 @@ impl MemoryFiles {
         ensures fails { result ≡ kept.fails_next self.old }
         ensures state { self.new ≡ kept.called self.old }
         ensures later { self.old.faults ≤ self.new.faults }
+        ensures stays { result ≡ false → self.new.faults ≡ self.old.faults }
     {
         self.calls = self.calls.saturating_add(1);
         if self.fails.contains(&self.calls) {
@@ -130,6 +131,7 @@ impl Files for MemoryFiles {
         ensures same { Some (kept.tree_of self.new.entries) ≡ Some (kept.tree_of self.old.entries) }
         ensures names { (t : Tree) → Some (kept.tree_of self.old.entries) ≡ Some t → IsListing result (t.names folder.now) }
         ensures later { self.old.faults ≤ self.new.faults }
+        ensures stays { IfListed result (self.new.faults ≡ self.old.faults) }
         ensures failed { result ≡ Listed.Failed → Rose self.old.faults self.new.faults }
         ensures fails { (result ≡ Listed.Failed) ↔ IsTrue (kept.fails_next self.old) }
         ensures state { self.new ≡ kept.called self.old }
@@ -144,6 +146,7 @@ impl Files for MemoryFiles {
         ensures same { Some (kept.tree_of self.new.entries) ≡ Some (kept.tree_of self.old.entries) }
         ensures bytes { (t : Tree) → Some (kept.tree_of self.old.entries) ≡ Some t → IsReading result (t.bytes path.now) }
         ensures later { self.old.faults ≤ self.new.faults }
+        ensures stays { IfRead result (self.new.faults ≡ self.old.faults) }
         ensures failed { result ≡ FileRead.Failed → Rose self.old.faults self.new.faults }
         ensures fails { (result ≡ FileRead.Failed) ↔ IsTrue (kept.fails_next self.old) }
         ensures state { self.new ≡ kept.called self.old }
@@ -192,6 +195,7 @@ impl Files for QuietFiles {
         ensures same { Some (kept.tree_of self.new) ≡ Some (kept.tree_of self.old) }
         ensures names { (t : Tree) → Some (kept.tree_of self.old) ≡ Some t → IsListing result (t.names folder.now) }
         ensures later { 0 ≤ 0 }
+        ensures stays { IfListed result (◌≡◌ {A = ℕ} 0 0) }
         ensures failed { result ≡ Listed.Failed → Rose 0 0 }
         ensures unchanged { self.new ≡ self.old }
     {
@@ -202,6 +206,7 @@ impl Files for QuietFiles {
         ensures same { Some (kept.tree_of self.new) ≡ Some (kept.tree_of self.old) }
         ensures bytes { (t : Tree) → Some (kept.tree_of self.old) ≡ Some t → IsReading result (t.bytes path.now) }
         ensures later { 0 ≤ 0 }
+        ensures stays { IfRead result (◌≡◌ {A = ℕ} 0 0) }
         ensures failed { result ≡ FileRead.Failed → Rose 0 0 }
         ensures unchanged { self.new ≡ self.old }
     {

@@ -3,7 +3,7 @@ use Rattle.std.specs.Prelude.{◌≡◌, ℕ, ◌+◌, ◌≤◌, false, [], ◌
 use Rattle.dc_model.specs.Event.{line}
 use Rattle.dc_model.specs.Line.{line_starting}
 use Rattle.dc_model.specs.Rules.{Rules}
-use Rattle.dc_event.specs.Automaton.{Automaton}
+use Rattle.dc_engine.specs.Automaton.{Automaton}
 use Rattle.dc_machine.specs.Kept.{IsSound, IsRoomy}
 use Rattle.dc_machine.specs.Machine.{Machine, step, wake}
 

@@ -8,7 +8,7 @@ ghost use Rattle.dc_core.specs.Running.{Running, core_machine};
 
 use dc_clients::Clients;
 use dc_desk::Counts;
-use dc_event::{Effects, Engine, Inbox};
+use dc_engine::{Effects, Engine, Inbox};
 use dc_lines::{Line, line_starting};
 use dc_rules::Config;
 use dc_store::Store;

@@ -1,5 +1,5 @@
 -- What the answers of `next`, `take` and `put` say.
-use Rattle.std.specs.Prelude.{◌≡◌, ℕ, ◌≤◌, List, [], ◌∷◌, length, take}
+use Rattle.std.specs.Prelude.{◌≡◌, ℕ, ◌≤◌, Bool, true, false, List, [], ◌∷◌, length, take}
 use Rattle.dc_model.specs.Event.{Event, IsEvent}
 use Rattle.dc_event.specs.declared.answers.Heard.{Heard}
 use Rattle.dc_event.specs.declared.answers.Heard.TheVariants as heard
@@ -16,6 +16,27 @@ heard_by heard.Event e = e ∷ []
 heard_by heard.End e = []
 heard_by heard.Failed e = []
 heard_by (heard.Bad line) e = []
+
+-- This holds where the call didn't answer its failure.
+
+abbrev pub IfHeard : Heard → Type 0 → Type 0
+IfHeard heard.Event P = P
+IfHeard heard.End P = P
+IfHeard heard.Failed P = Unit {0}
+IfHeard (heard.Bad line) P = P
+
+abbrev pub IfTaken : Taken → Type 0 → Type 0
+IfTaken (taken.Bytes n) P = P
+IfTaken taken.Failed P = Unit {0}
+
+-- One more event was gathered.
+abbrev pub IfMore : Bool → Type 0 → Type 0
+IfMore true P = P
+IfMore false P = Unit {0}
+
+abbrev pub IfPut : Put → Type 0 → Type 0
+IfPut (put.Taken n) P = P
+IfPut put.Failed P = Unit {0}
 
 -- What stands where a call of `next` that left this in the inbox answered so: an event is within its bounds, the end comes where the
 -- events are used up, a fault where the count rose, and a bad line where that line is outside the grammar.

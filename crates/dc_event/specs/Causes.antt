@@ -1,5 +1,5 @@
 -- Counts of faults and of calls, which never fall.
-use Rattle.std.specs.Prelude.{ℕ, ◌+◌, ◌-◌, ◌^◌, ◌≤◌, min, OnErr}
+use Rattle.std.specs.Prelude.{◌≡◌, ℕ, ◌+◌, ◌-◌, ◌^◌, ◌≤◌, min, OnOk, OnErr}
 use Rattle.std.specs.declared.result.Result.{Result}
 
 -- The count after one more. It stands still at the end of its type.
@@ -10,7 +10,8 @@ counted n = min (n + 1) (2 ^ 64 - 1)
 abbrev pub Rose : ℕ → ℕ → Type 0
 Rose before now = min (before + 1) (2 ^ 64 - 1) ≤ now
 
--- The count didn't fall, and an `Err` comes only where it rose.
+-- The count didn't fall: it rose at an `Err`, and stayed at an `Ok`.
 pub record HasCause {T E : Type 0} (before now : ℕ) (result : Result T E) : Type 0 where
   pub later : before ≤ now
+  pub stays : OnOk result (now ≡ before)
   pub failed : OnErr result (Rose before now)

@@ -1,10 +1,9 @@
-pub mod View
 pub mod Told
 pub mod Causes
 pub mod Answers
+pub mod History
 pub mod Bytes
 pub mod Known
 pub mod Quiet
 pub mod Scripted
-pub mod Automaton
 pub mod Host

@@ -6,10 +6,7 @@
 #![tactic(auto)]
 
 pub mod answers;
-pub mod engine;
-pub mod events;
 pub mod host;
-pub mod inbox;
 pub mod laws;
 pub mod lent;
 pub mod quiet;
@@ -18,16 +15,15 @@ pub mod stream;
 pub mod whole;
 pub mod world;
 
+pub use dc_engine::{Effects, Engine, Event, Inbox, Kind};
+
 pub use answers::{Heard, Put, Taken, WorldFailed};
-pub use engine::Engine;
-pub use events::{Event, Kind};
 pub use host::{ReaderSource, WriterSink};
-pub use inbox::Inbox;
 pub use quiet::{QuietSink, QuietSource};
 pub use scripted::{MemorySink, MemorySource};
 pub use stream::{Sink, Source};
 pub use whole::put_all;
-pub use world::{Effects, World};
+pub use world::{BatchWorld, World};
 
 #[cfg(test)]
 mod tests;

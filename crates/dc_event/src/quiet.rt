@@ -2,7 +2,7 @@
 ghost use Rattle.std.specs.Prelude.{◌≡◌, ℕ, ◌+◌, ◌-◌, ◌≤◌, ◌<◌, List, [], ◌++◌, length, take, drop, min, IfOk, Some, None, MatchOption};
 ghost use Rattle.std.specs.declared.option.Option.{Option};
 ghost use Rattle.std.specs.Io.KnownBytes.{IsAtEnd};
-ghost use Rattle.dc_event.specs.Answers.{taken_by, TakesAtMost, put_by, PutsSome};
+ghost use Rattle.dc_event.specs.Answers.{taken_by, TakesAtMost, IfTaken, put_by, PutsSome, IfPut};
 ghost use Rattle.dc_event.specs.Bytes.{Moved, Moved-none, Moved-both};
 ghost use Rattle.dc_event.specs.Causes.{Rose};
 ghost use Rattle.dc_event.specs.Quiet.{Filled, Filled-none, Filled-both};
@@ -52,6 +52,7 @@ impl Source for QuietSource {
         ensures bound { TakesAtMost result (length into.new) }
         ensures end { result ≡ Taken.Bytes 0 → IsAtEnd (Some self.new.left) }
         ensures later { 0 ≤ 0 }
+        ensures stays { IfTaken result (◌≡◌ {A = ℕ} 0 0) }
         ensures failed { result ≡ Taken.Failed → Rose 0 0 }
         ensures answer { result ≡ Taken.Bytes (min (length into.old) (length self.old.left)) }
     {
@@ -138,6 +139,7 @@ impl Sink for QuietSink {
         ensures gained { Filled self.old (put_by result bytes.now) self.new }
         ensures bound { PutsSome result (length bytes.now) }
         ensures later { 0 ≤ 0 }
+        ensures stays { IfPut result (◌≡◌ {A = ℕ} 0 0) }
         ensures failed { result ≡ Put.Failed → Rose 0 0 }
         ensures answer { result ≡ Put.Taken (length bytes.now) }
     {

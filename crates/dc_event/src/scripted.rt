@@ -1,7 +1,7 @@
 //! A source and a sink in memory whose calls of given numbers fail.
 ghost use Rattle.std.specs.Prelude.{◌≡◌, ℕ, ◌+◌, ◌-◌, ◌≤◌, ◌<◌, List, [], ◌++◌, length, take, drop, min, IfOk, Some, None};
 ghost use Rattle.std.specs.Io.KnownBytes.{IsAtEnd};
-ghost use Rattle.dc_event.specs.Answers.{taken_by, TakesAtMost, put_by, PutsSome};
+ghost use Rattle.dc_event.specs.Answers.{taken_by, TakesAtMost, IfTaken, put_by, PutsSome, IfPut};
 ghost use Rattle.dc_event.specs.Causes.{Rose, counted};
 ghost use Rattle.dc_event.specs.Scripted.{Wound, Wound-none, Wound-both, Added, Added-none, Added-both, take_gives, put_gives, faults_taken, faults_put};
 
@@ -63,6 +63,7 @@ impl Source for MemorySource {
         ensures bound { TakesAtMost result (length into.new) }
         ensures end { result ≡ Taken.Bytes 0 → IsAtEnd (Some self.new.left) }
         ensures later { self.old.faults ≤ self.new.faults }
+        ensures stays { IfTaken result (self.new.faults ≡ self.old.faults) }
         ensures failed { result ≡ Taken.Failed → Rose self.old.faults self.new.faults }
         ensures answer { result ≡ take_gives self.old (length into.old) }
         ensures calls { self.new.calls ≡ counted self.old.calls }
@@ -144,6 +145,7 @@ impl Sink for MemorySink {
         ensures gained { Added self.old (put_by result bytes.now) self.new }
         ensures bound { PutsSome result (length bytes.now) }
         ensures later { self.old.faults ≤ self.new.faults }
+        ensures stays { IfPut result (self.new.faults ≡ self.old.faults) }
         ensures failed { result ≡ Put.Failed → Rose self.old.faults self.new.faults }
         ensures answer { result ≡ put_gives self.old (length bytes.now) }
         ensures calls { self.new.calls ≡ counted self.old.calls }

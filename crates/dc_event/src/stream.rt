@@ -2,7 +2,7 @@
 ghost use Rattle.std.specs.Prelude.{◌≡◌, ℕ, ◌≤◌, ◌<◌, List, [], ◌++◌, length};
 ghost use Rattle.std.specs.declared.option.Option.{Option};
 ghost use Rattle.std.specs.Io.KnownBytes.{IsAtEnd, Consumes};
-ghost use Rattle.dc_event.specs.Answers.{taken_by, TakesAtMost, put_by, PutsSome};
+ghost use Rattle.dc_event.specs.Answers.{taken_by, TakesAtMost, IfTaken, put_by, PutsSome, IfPut};
 ghost use Rattle.dc_event.specs.Causes.{Rose};
 
 use crate::{Put, Taken};
@@ -23,6 +23,7 @@ pub trait Source {
         ensures bound { TakesAtMost result (length into.new) }
         ensures end { result ≡ Taken.Bytes 0 → IsAtEnd (left self.new) }
         ensures later { faults self.old ≤ faults self.new }
+        ensures stays { IfTaken result (faults self.new ≡ faults self.old) }
         ensures failed { result ≡ Taken.Failed → Rose (faults self.old) (faults self.new) };
 
     /// How often the source has failed. The count never falls.
@@ -50,6 +51,7 @@ pub trait Sink {
         ensures gained { gained self.old (put_by result bytes.now) self.new }
         ensures bound { PutsSome result (length bytes.now) }
         ensures later { faults self.old ≤ faults self.new }
+        ensures stays { IfPut result (faults self.new ≡ faults self.old) }
         ensures failed { result ≡ Put.Failed → Rose (faults self.old) (faults self.new) };
 
     /// How often the sink has failed. The count never falls.

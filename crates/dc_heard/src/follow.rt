@@ -23,7 +23,7 @@ use crate::refers::refers;
 use crate::says::Says;
 use crate::told::tell;
 use dc_desk::{Desk, Moment, Point, Step};
-use dc_event::Effects;
+use dc_engine::Effects;
 use dc_frames::{Found, Query};
 use dc_packet::{Message, kept_ttl};
 use dc_store::Store;

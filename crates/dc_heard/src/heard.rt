@@ -15,7 +15,7 @@ use crate::follow::follow;
 use crate::record::said;
 use crate::says::{Says, said_by};
 use dc_desk::{Cause, Desk, Moment, Outcome, Step};
-use dc_event::Effects;
+use dc_engine::Effects;
 use dc_frames::{Query, found, puts};
 use dc_store::Store;
 

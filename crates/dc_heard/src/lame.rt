@@ -7,7 +7,7 @@ ghost use Rattle.dc_machine.specs.Query.{top_of, with_places};
 ghost use Rattle.dc_frames.specs.View.{query_of};
 
 use crate::Answered;
-use dc_event::Effects;
+use dc_engine::Effects;
 use dc_frames::Query;
 use dc_lines::{Line, line_lame};
 use dc_name::Name;

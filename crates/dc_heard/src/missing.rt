@@ -15,7 +15,7 @@ ghost use Rattle.dc_heard.specs.Said.{IsThere};
 
 use crate::record::{data, row};
 use dc_desk::Key;
-use dc_event::Effects;
+use dc_engine::Effects;
 use dc_frames::Query;
 use dc_lines::{Line, line_nodata, line_nxdomain};
 use dc_packet::{Data, Message, kept_ttl, u32_at};

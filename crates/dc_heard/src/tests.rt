@@ -6,7 +6,7 @@ mod packets;
 use crate::{Answered, hear};
 use cases::{CASES, KIND_A};
 use dc_desk::{Cause, Counts, Desk, Moment, Outcome, Point, Step};
-use dc_event::Effects;
+use dc_engine::Effects;
 use dc_frames::Query;
 use dc_name::Name;
 use dc_packet::{Request, Table};

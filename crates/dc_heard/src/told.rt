@@ -14,7 +14,7 @@ use crate::Answered;
 use crate::missing::{negative_ttl, no_data};
 use crate::record::said;
 use dc_desk::{Desk, Moment};
-use dc_event::Effects;
+use dc_engine::Effects;
 use dc_frames::{Found, Query};
 use dc_lines::{Line, line_stats};
 use dc_store::Store;

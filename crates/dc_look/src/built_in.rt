@@ -12,7 +12,7 @@ ghost use Rattle.dc_look.specs.Rows.{loopback_here};
 use crate::wanted::is_wanted;
 use dc_answer::{reply_nothing, reply_one};
 use dc_desk::{Desk, Point, Step};
-use dc_event::Effects;
+use dc_engine::Effects;
 use dc_frames::Query;
 use dc_name::Name;
 use dc_reply::{Body, Reply};

@@ -14,7 +14,7 @@ use crate::kinds::known;
 use crate::wanted::is_wanted;
 use dc_answer::reply_one;
 use dc_desk::{Desk, Key, Moment, Point, Step};
-use dc_event::Effects;
+use dc_engine::Effects;
 use dc_frames::{Query, Renamed};
 use dc_items::target;
 use dc_lines::{Line, line_cached, line_cached_cname, line_cached_nxdomain};

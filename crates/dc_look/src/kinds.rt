@@ -16,7 +16,7 @@ use crate::wanted::{is_other, is_wanted};
 use crate::zone::zone;
 use dc_answer::reply_items;
 use dc_desk::{Desk, Key, Moment, Point, Step};
-use dc_event::Effects;
+use dc_engine::Effects;
 use dc_frames::Query;
 use dc_items::{Addresses, Items};
 use dc_lines::{Line, line_cached};

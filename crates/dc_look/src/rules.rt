@@ -7,7 +7,7 @@ ghost use Rattle.dc_desk.specs.Steps.{TookRow};
 use crate::built_in::{built_in, give_address, give_host, is_loopback};
 use crate::cached::missing;
 use dc_desk::{Cause, Desk, Key, Moment, Outcome, Step};
-use dc_event::Effects;
+use dc_engine::Effects;
 use dc_frames::Query;
 use dc_store::Store;
 

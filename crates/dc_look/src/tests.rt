@@ -4,7 +4,7 @@ ghost use Rattle.dc_frames.specs.View.{query_of};
 
 use crate::look;
 use dc_desk::{Cause, Counts, Desk, Moment, Outcome, Point, Step};
-use dc_event::Effects;
+use dc_engine::Effects;
 use dc_frames::Query;
 use dc_name::Name;
 use dc_packet::{Request, Table};

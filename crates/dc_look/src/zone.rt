@@ -11,7 +11,7 @@ ghost use Rattle.dc_look.specs.Chosen.{choice_among, choice_at, choice_made, cho
 
 use crate::servers::{Chosen, Servers, choose};
 use dc_desk::{Desk, Key, Moment, Point, Step};
-use dc_event::Effects;
+use dc_engine::Effects;
 use dc_frames::Query;
 use dc_items::Items;
 use dc_lines::{Line, line_cached_ns};

@@ -3,7 +3,7 @@ use Rattle.std.proofs.Common.{◌≡◌, ℕ, ◌+◌, List, [], ◌∷◌, ◌+
 use Rattle.dc_model.specs.Draws.{draws_of}
 use Rattle.dc_model.specs.Event.{Event, Action}
 use Rattle.dc_draws.specs.Drawn.{Drawn}
-use Rattle.dc_event.specs.Automaton.{Automaton, state_after, actions_of}
+use Rattle.dc_engine.specs.Automaton.{Automaton, state_after, actions_of}
 use Rattle.dc_event.specs.Told.{BeginsWith}
 use Rattle.dc_script.specs.Text.{text_of}
 use Rattle.dc_script.specs.Written.{text_of-append}

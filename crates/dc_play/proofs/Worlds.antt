@@ -5,7 +5,7 @@ use Rattle.std.proofs.lemmas.List.{append-nil}
 use Rattle.dc_model.specs.Draws.{draws_of}
 use Rattle.dc_model.specs.Event.{Event, Action}
 use Rattle.dc_draws.specs.Drawn.{Drawn}
-use Rattle.dc_event.specs.Automaton.{Automaton, actions_of}
+use Rattle.dc_engine.specs.Automaton.{Automaton, actions_of}
 use Rattle.dc_script.specs.Head.{MayFollow}
 use Rattle.dc_script.specs.Script.{bad_at}
 use Rattle.dc_script.specs.Read.{after_events, says}

@@ -3,7 +3,7 @@ use Rattle.std.specs.Prelude.{◌≡◌, ℕ, ◌^◌, Bool, true, false, min, n
 use Rattle.std.specs.declared.option.Option.{Option}
 use Rattle.std.specs.declared.option.Option.TheVariants.{None, Some}
 use Rattle.dc_model.specs.Event.{Event, Action}
-use Rattle.dc_event.specs.Automaton.{Automaton, actions_of}
+use Rattle.dc_engine.specs.Automaton.{Automaton, actions_of}
 use Rattle.dc_event.specs.Told.{BeginsWith}
 use Rattle.dc_script.specs.Script.{Said}
 use Rattle.dc_script.specs.Text.{text_of}

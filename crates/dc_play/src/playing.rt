@@ -1,5 +1,5 @@
 //! Playing the events of a script to an engine.
-ghost use Rattle.std.specs.Prelude.{◌≡◌, ℕ, ◌+◌, ◌<◌, ◌^◌, false, List, ◌++◌};
+ghost use Rattle.std.specs.Prelude.{◌≡◌, ◌≢◌, ℕ, ◌+◌, ◌<◌, ◌^◌, false, List, ◌++◌};
 ghost use Rattle.std.specs.Io.KnownBytes.{IsAtEnd};
 ghost use Rattle.dc_model.specs.Draws.{draws_of};
 ghost use Rattle.dc_event.specs.Causes.{Rose};
@@ -76,6 +76,8 @@ fn over<S: Source, K: Sink, E: Engine>(
         text result.0)) }
     ensures read { result.0 ≡ Played.ReadFault → Rose (S.faults source) (S.faults result.1) }
     ensures write { result.0 ≡ Played.WriteFault → Rose (K.faults sink) (K.faults result.2) }
+    ensures read_stays { result.0 ≢ Played.ReadFault → result.0 ≢ Played.WriteFault → S.faults result.1 ≡ S.faults source }
+    ensures write_stays { result.0 ≢ Played.WriteFault → K.faults result.2 ≡ K.faults sink }
     ensures end { result.0 ≡ Played.Done → IsAtEnd (S.left result.1) }
 {
     let Places { buffer, mut inbox } = places;
@@ -108,6 +110,8 @@ pub fn play<S: Source, K: Sink, E: Engine>(
         text result)) }
     ensures read { result ≡ Played.ReadFault → Rose (S.faults source.old) (S.faults source.new) }
     ensures write { result ≡ Played.WriteFault → Rose (K.faults sink.old) (K.faults sink.new) }
+    ensures read_stays { result ≢ Played.ReadFault → result ≢ Played.WriteFault → S.faults source.new ≡ S.faults source.old }
+    ensures write_stays { result ≢ Played.WriteFault → K.faults sink.new ≡ K.faults sink.old }
     ensures end { result ≡ Played.Done → IsAtEnd (S.left source.new) }
 {
     let (answer, _, _) = over(places, engine, seed, events, source, sink, turns);

@@ -21,7 +21,7 @@ use crate::gathered::Gathered;
 use crate::record::{kind_at, owner_at, row, ttl_at};
 use crate::told::{Shared, write_line};
 use arrayvec::ArrayVec;
-use dc_event::Effects;
+use dc_engine::Effects;
 use dc_lines::Line;
 use dc_name::Name;
 use dc_packet::{Data, Message, Rr, Section, kept_ttl};

@@ -2,7 +2,7 @@
 
 use crate::puts;
 use arrayvec::ArrayVec;
-use dc_event::Effects;
+use dc_engine::Effects;
 use dc_name::Name;
 use dc_packet::Table;
 use dc_rules::{Rule, Zones};

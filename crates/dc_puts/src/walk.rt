@@ -15,7 +15,7 @@ use crate::group::put_run;
 use crate::index::arrange;
 use crate::record::{kind_at, owner_at};
 use arrayvec::ArrayVec;
-use dc_event::Effects;
+use dc_engine::Effects;
 use dc_lines::Line;
 use dc_name::Name;
 use dc_packet::{Message, Table};

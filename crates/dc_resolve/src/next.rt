@@ -8,7 +8,7 @@ ghost use Rattle.dc_resolve.specs.Steps.{TookStep};
 
 use dc_desk::{Desk, Moment, Outcome, Point, Step};
 use dc_draws::shuffle;
-use dc_event::Effects;
+use dc_engine::Effects;
 use dc_frames::Query;
 use dc_lines::{Line, line_tx};
 use dc_store::Store;

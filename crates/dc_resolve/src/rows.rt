@@ -7,7 +7,7 @@ ghost use Rattle.dc_desk.specs.declared.moment.Moment.{Moment};
 
 use dc_answer::{reply_failure, reply_missing};
 use dc_desk::{Cause, Desk, Outcome, Point, Step};
-use dc_event::Effects;
+use dc_engine::Effects;
 use dc_frames::Query;
 use dc_lines::{Line, line_servfail};
 use dc_name::Name;

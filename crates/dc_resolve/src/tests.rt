@@ -11,7 +11,7 @@ mod rows;
 mod servers;
 
 use crate::{Counts, Desk, Outcome, event, start};
-use dc_event::{Effects, Event, Inbox, Kind};
+use dc_engine::{Effects, Event, Inbox, Kind};
 use dc_frames::Query;
 use dc_lines::{Line, line_drop};
 use dc_name::Name;

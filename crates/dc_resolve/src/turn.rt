@@ -16,7 +16,7 @@ use crate::next::next;
 use crate::rows::{alias, begin, down, fail, nxdomain, servfail};
 use crate::short::hosts_fit;
 use dc_desk::{Cause, Desk, Moment, Outcome, Point, Step};
-use dc_event::{Effects, Inbox};
+use dc_engine::{Effects, Inbox};
 use dc_frames::Query;
 use dc_heard::{Answered, hear};
 use dc_look::look;

@@ -1,3 +1,4 @@
 pub mod Nearest
 pub mod Permissions
 pub mod Filling
+pub mod Placing

@@ -1,4 +1,7 @@
 //! Zones with servers of their own.
+ghost use Rattle.std.specs.List.{AllByRecursion};
+ghost use Rattle.std.specs.Prelude.{length};
+ghost use Rattle.dc_model.specs.Rules.{Zone as ZoneModel};
 ghost use Rattle.std.specs.Prelude.{◌≡◌, ◌++◌, option_map, IfOk, OnErr, MatchResult};
 ghost use Rattle.std.specs.Option.{option_copied};
 ghost use Rattle.std.specs.List.{find};
@@ -93,6 +96,13 @@ impl Zones {
         };
         self.zones.push(zone).unwrap();
         Ok(())
+    }
+
+    /// Each zone has sixteen places of four octets.
+    pub fn have_places(&self)
+        ensures { AllByRecursion (λ (z : ZoneModel). length z.places ≡ 16) self.now.configured }
+    {
+        let _ = &self.zones;
     }
 
     /// Whether a zone is configured.

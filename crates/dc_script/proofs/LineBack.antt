@@ -1,6 +1,6 @@
 -- A line that is read as an event is the line of that event.
-use Rattle.std.proofs.Common.{◌≡◌, ℕ, ◌+◌, ◌-◌, ◌*◌, ◌/◌, ◌%◌, ◌^◌, ◌<◌, ◌≤◌, Bool, true, false, not, ◌&&◌, ◌||◌, ◌==◌, cond, eqb, ltb, leb, bytes_eq, List, [], ◌∷◌, ◌++◌, length, map, get_or, codes, decimal, Option, Some, None, option_map, option_and_then, refl, sym, ◌∙◌, ap, subst, arith, ◌⊎◌, inl, inr}
-use Rattle.std.specs.List.{list_all, join_with_byte, AllByRecursion}
+use Rattle.std.proofs.Common.{◌≡◌, ℕ, suc, zero, ◌+◌, ◌-◌, ◌*◌, ◌/◌, ◌%◌, ◌^◌, ◌<◌, ◌≤◌, Bool, true, false, not, ◌&&◌, ◌||◌, ◌==◌, cond, eqb, ltb, leb, bytes_eq, List, [], ◌∷◌, ◌++◌, length, map, get_or, codes, decimal, Option, Some, None, option_map, option_and_then, refl, sym, ◌∙◌, ap, subst, arith, ◌⊎◌, inl, inr}
+use Rattle.std.specs.List.{slice_index, list_all, join_with_byte, AllByRecursion}
 use Rattle.std.proofs.lemmas.Bool.Decides.{nat_tests}
 use Rattle.std.proofs.lemmas.Slice.Eq.{bytes_eq-Decides}
 use Rattle.std.proofs.lemmas.List.{append-nil}
@@ -221,6 +221,11 @@ end_back (w ∷ ws) v e h = absurd cc
 
 -- Events
 
+each_octet : (bs : List ℕ) → AllByRecursion (λ b. b < 256) bs → (i : ℕ) → slice_index bs i < 256
+each_octet [] h i = omega arith
+each_octet (b ∷ bs) h zero = h.0
+each_octet (b ∷ bs) h (suc i) = each_octet bs h.1 i
+
 said_back : (ws : Words) (e : Event) → event_said ws ≡ Some e → (ws ≡ event_words e) × IsWritten e
 unfolding event_said
 said_back ws e h =
@@ -249,7 +254,7 @@ said_back ws e h =
           port.0 ∙ ap (λ l. word_if (has_sender k) (decimal g.0.0) ++ l) (
           bytes.0 ∙ ap (λ l. word_if (has_bytes_word k) (bytes_text i.0.0) ++ l) whole ∙ append-nil (word_if (has_bytes_word k) (bytes_text i.0.0)))))),
       record {
-        bounds = record { moment = moment.1; numbered = number.1; octets = addr.1.0; port_bound = port.1; most = bytes.1.1 };
+        bounds = record { moment = moment.1; numbered = number.1; octets = addr.1.0; port_bound = port.1; most = bytes.1.1; octet = each_octet i.0.0 bytes.1.0 };
         octets = addr.1.1;
         bytes = bytes.1.0;
         no_number = number.2;

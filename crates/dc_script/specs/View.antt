@@ -6,7 +6,7 @@ use Rattle.dc_script.specs.declared.action.Action.TheVariants.{Reply, ConnReply,
 use Rattle.dc_script.specs.declared.text.Rest.{Rest}
 use Rattle.dc_script.specs.declared.text.Rest.TheVariants.{Bytes, Text, Nothing}
 use Rattle.dc_script.specs.declared.events.EventLine.{EventLine}
-use Rattle.dc_event.specs.View.{event_of}
+use Rattle.dc_engine.specs.View.{event_of}
 use Rattle.dc_script.specs.Text.{bytes_text}
 use Rattle.dc_script.specs.Script.{bytes_spelled}
 

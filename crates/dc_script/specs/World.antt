@@ -7,7 +7,9 @@ use Rattle.std.specs.Io.KnownBytes.{IsAtEnd}
 use Rattle.dc_model.specs.Event.{Event, IsEvent, Action}
 use Rattle.dc_event.specs.declared.answers.Heard.{Heard as Answer}
 use Rattle.dc_event.specs.declared.answers.Heard.TheVariants as answer
+use Rattle.dc_event.specs.Answers.{heard_by}
 use Rattle.dc_event.specs.Causes.{counted}
+use Rattle.dc_event.specs.History.{Exchange, listened, asked, answer_by, heard_of, done_all, events_in, actions_in, last_in, kept_in, events-both, actions-both, last-both, kept-both, events-done, actions-done, last-done, kept-done}
 use Rattle.dc_script.specs.Script.{bad_at, most_line}
 use Rattle.dc_script.specs.Lines.{IsOneLine}
 use Rattle.dc_script.specs.declared.lines.NextLine.{NextLine}
@@ -69,6 +71,15 @@ pub record HandedOut {S K : Type 0} (took : S → List ℕ → S → Type 0) (ol
 pub record Wrote {S K : Type 0} (gained : K → List ℕ → K → Type 0) (old : Recorded S K) (actions : List Action) (new : Recorded S K) : Type 0 where
   pub written : Written gained old.write_failed new.write_failed old.sink (text_of actions) new.sink
   pub same_start : new.sink_start ≡ old.sink_start
+
+-- What passed, of which the order isn't told: these events were handed out, and these actions were written. While the world hasn't failed,
+-- no read has.
+pub record Passed {S K : Type 0} (took : S → List ℕ → S → Type 0) (gained : K → List ℕ → K → Type 0) (old : Recorded S K) (history : List Exchange) (new : Recorded S K) : Type 0 where
+  pub heard : HandedOut took old (events_in history) new
+  pub done : Wrote gained old (actions_in history) new
+  pub answered : new.last ≡ last_in old.last history
+  pub kept_addresses : new.kept ≡ kept_in old.kept history
+  pub calm : new.faults ≡ 0 → (old.faults ≡ 0) × (new.read_failed ≡ old.read_failed)
 
 -- The script ends here, with its line `end` and nothing behind it.
 abbrev pub IsOver : List ℕ → Type 0
@@ -191,8 +202,8 @@ next_stopped {S} {K} mid new a e h =
 pub Acted-wrote : {S K : Type 0} (gained : K → List ℕ → K → Type 0) (a b : Recorded S K) (xs : List Action) → Acted gained a xs b → Wrote gained a xs b
 Acted-wrote gained a b xs p = record { written = p.written; same_start = ap (λ w. w.sink_start) p.same }
 
-pub Acted-faults : {S K : Type 0} (gained : K → List ℕ → K → Type 0) (a b : Recorded S K) (xs : List Action) → Acted gained a xs b → a.faults ≤ b.faults
-Acted-faults gained a b xs p = let same : b.faults ≡ a.faults = ap (λ w. w.faults) p.same in omega (arith, same)
+pub Acted-faults : {S K : Type 0} (gained : K → List ℕ → K → Type 0) (a b : Recorded S K) (xs : List Action) → Acted gained a xs b → b.faults ≡ a.faults
+Acted-faults gained a b xs p = ap (λ w. w.faults) p.same
 
 -- What isn't failed hasn't failed.
 no_change : (failed : Bool) (P : Type 0) → failed ≡ false → failed ≡ true → P
@@ -238,3 +249,102 @@ module _ {S K : Type 0} (took : S → List ℕ → S → Type 0) (none : (a : S)
         stopped = no_change a.read_failed (SaysNoMore a.unread);
         stays = λ failed. (failed, refl);
       })
+
+-- What one call of `next` passes.
+
+events_asked : (wake : Option ℕ) (a : Answer) (e : Event) → heard_by a e ≡ events_in (asked wake (answer_by a e) ∷ [])
+events_asked wake answer.Event e = refl
+events_asked wake answer.End e = refl
+events_asked wake answer.Failed e = refl
+events_asked wake (answer.Bad line) e = refl
+
+answered_by : (a : Answer) (e : Event) → a ≡ heard_of (answer_by a e)
+answered_by answer.Event e = refl
+answered_by answer.End e = refl
+answered_by answer.Failed e = refl
+answered_by (answer.Bad line) e = refl
+
+-- Where the world's count is 0 behind an answer, the answer was no fault.
+calm_by : (a : Answer) (before : ℕ) (P : Type 0) → IfFailed a (Unit {0}) P → faults_behind a before ≡ 0 → (before ≡ 0) × P
+calm_by answer.Event before P p none = (none, p)
+calm_by answer.End before P p none = (none, p)
+calm_by answer.Failed before P p none = absurd (omega (arith, none))
+calm_by (answer.Bad line) before P p none = (none, p)
+
+-- Less is said of a fault.
+pub IfFailed-less : (a : Answer) (failed P : Type 0) → IfFailed a failed P → IfFailed a (Unit {0}) P
+IfFailed-less answer.Event failed P p = p
+IfFailed-less answer.End failed P p = p
+IfFailed-less answer.Failed failed P p = tt
+IfFailed-less (answer.Bad line) failed P p = p
+
+module _ {S K : Type 0} (took : S → List ℕ → S → Type 0) (took_none : (a : S) → took a [] a)
+    (took_both : (a b c : S) (xs ys : List ℕ) → took a xs b → took b ys c → took a (xs ++ ys) c)
+    (gained : K → List ℕ → K → Type 0) (gained_none : (a : K) → gained a [] a)
+    (gained_both : (a b c : K) (xs ys : List ℕ) → gained a xs b → gained b ys c → gained a (xs ++ ys) c) where
+  pub Passed-none : (a : Recorded S K) → Passed took gained a [] a
+  Passed-none a = record {
+    heard = HandedOut-none took took_none took_both a;
+    done = Wrote-none gained gained_none gained_both a;
+    answered = refl;
+    kept_addresses = refl;
+    calm = λ none. (none, refl);
+  }
+
+  pub Passed-both : (a b c : Recorded S K) (g h : List Exchange) → Passed took gained a g b → Passed took gained b h c → Passed took gained a (g ++ h) c
+  Passed-both a b c g h p q = record {
+    heard = subst (λ xs. HandedOut took a xs c) (sym (events-both g h)) (HandedOut-both took took_none took_both a b c (events_in g) (events_in h) p.heard q.heard);
+    done = subst (λ xs. Wrote gained a xs c) (sym (actions-both g h)) (Wrote-both gained gained_none gained_both a b c (actions_in g) (actions_in h) p.done q.done);
+    answered = q.answered ∙ ap (λ l. last_in l h) p.answered ∙ sym (last-both a.last g h);
+    kept_addresses = q.kept_addresses ∙ ap (λ l. kept_in l h) p.kept_addresses ∙ sym (kept-both a.kept g h);
+    calm = λ none.
+        let then = q.calm none in
+        let first = p.calm then.0 in
+        (first.0, then.1 ∙ first.1);
+  }
+
+  -- Where a list was acted, that is all that passed.
+  pub Acted-passed : (a b : Recorded S K) (xs : List Action) → Acted gained a xs b → Passed took gained a (done_all xs) b
+  Acted-passed a b xs p = record {
+    heard = subst (λ es. HandedOut took a es b) (sym (events-done xs)) (Acted-heard took took_none took_both gained a b xs p);
+    done = subst (λ as'. Wrote gained a as' b) (sym (actions-done xs)) (Acted-wrote gained a b xs p);
+    answered = ap {A = Recorded S K} (λ w. w.last) p.same ∙ sym (last-done a.last xs);
+    kept_addresses = ap {A = Recorded S K} (λ w. w.kept) p.same ∙ sym (kept-done a.kept xs);
+    calm = λ none. (sym (Acted-faults gained a b xs p) ∙ none, ap {A = Recorded S K} (λ w. w.read_failed) p.same);
+  }
+
+  -- A call of `listen` keeps its addresses, and changes nothing else.
+  pub Passed-listen : (a : Recorded S K) (addr send_from : List ℕ) → Passed took gained a (listened addr send_from true ∷ []) (record a { kept = Some (addr, send_from) })
+  Passed-listen a addr send_from = record {
+    heard = record {
+      heard = ReadOff-none took took_none took_both a.source a.unread a.lines;
+      same_start = refl;
+      stopped = no_change a.read_failed (SaysNoMore a.unread);
+      stays = λ failed. (failed, refl);
+    };
+    done = Wrote-same gained gained_none gained_both a a.source a.unread a.lines a.source_start a.read_failed a.faults a.last (Some (addr, send_from));
+    answered = refl;
+    kept_addresses = refl;
+    calm = λ none. (none, refl);
+  }
+
+  -- A call of `next` hands out what was read, and keeps its answer.
+  pub Passed-next : (old mid new : Recorded S K) (wake : Option ℕ) (a : Answer) (e : Event) → HandedOut took old (heard_by a e) mid
+      → mid ≡ record old { source = mid.source; unread = mid.unread; lines = mid.lines; read_failed = mid.read_failed }
+      → new ≡ record mid { faults = faults_behind a mid.faults; last = Some a }
+      → IfFailed a (Unit {0}) (mid.read_failed ≡ old.read_failed)
+      → Passed took gained old (asked wake (answer_by a e) ∷ []) new
+  Passed-next old mid new wake a e h same note unread_failed =
+      let P : Recorded S K → Type 0 = λ w. HandedOut took old (heard_by a e) w in
+      let number : new.faults ≡ faults_behind a old.faults =
+      ap {A = Recorded S K} (λ w. w.faults) note ∙ ap {A = Recorded S K} (λ w. faults_behind a w.faults) same in
+      let handed : HandedOut took old (heard_by a e) new = subst P (sym note) (record { heard = h.heard; same_start = h.same_start; stopped = h.stopped; stays = h.stays }) in
+      record {
+        heard = subst (λ es. HandedOut took old es new) (events_asked wake a e) handed;
+        done = Wrote-next gained gained_none gained_both old mid new (faults_behind a mid.faults) (Some a) same note;
+        answered = ap {A = Recorded S K} (λ w. w.last) note ∙ ap (λ x. Some x) (answered_by a e);
+        kept_addresses = ap {A = Recorded S K} (λ w. w.kept) note ∙ ap {A = Recorded S K} (λ w. w.kept) same;
+        calm = λ none.
+            let before = calm_by a old.faults (mid.read_failed ≡ old.read_failed) unread_failed (sym number ∙ none) in
+            (before.0, ap {A = Recorded S K} (λ w. w.read_failed) note ∙ before.1);
+      }

@@ -4,7 +4,7 @@ ghost use Rattle.std.specs.List.{list_all};
 ghost use Rattle.dc_model.specs.Name.{address_of};
 ghost use Rattle.dc_model.specs.Places.{no_address};
 ghost use Rattle.dc_text.specs.Numbers.{number_below};
-ghost use Rattle.dc_event.specs.View.{kind_of};
+ghost use Rattle.dc_engine.specs.View.{kind_of};
 ghost use Rattle.dc_script.specs.Script.{behind_at, moment_taken, kind_word, kind_taken, taken_if, bytes_word, bytes_spelled, event_of_line, AreDigits};
 ghost use Rattle.dc_script.specs.Script as spec;
 ghost use Rattle.dc_script.specs.View.{line_says};

@@ -3,7 +3,8 @@ ghost use Rattle.std.specs.Prelude.{◌≡◌, ℕ, ◌+◌, List, [], ◌∷◌
 ghost use Rattle.std.specs.List.{AllByRecursion};
 ghost use Rattle.dc_model.specs.Event.{Event};
 ghost use Rattle.dc_model.specs.Rules.{Permits, Zones};
-ghost use Rattle.dc_event.specs.Told.{Tells, TellsAmong};
+ghost use Rattle.dc_event.specs.History.{Exchange, events_in, actions_in};
+ghost use Rattle.dc_event.specs.Told.{Tells};
 ghost use Rattle.dc_script.specs.EventText.{IsWritten, event_text, events_text};
 ghost use Rattle.dc_script.specs.Head.{Head, behind, head_of, script_said};
 ghost use Rattle.dc_script.specs.HeadText.{BeginsWithHead, IsScriptText, HeadTold, IsTold, first_told, first_zones, head_text, head_told, lines_of_head};
@@ -15,9 +16,10 @@ ghost use Rattle.dc_script.specs.World.{Recorded};
 use crate::{LineRest, ScriptWorld};
 use dc_event::{QuietSink, QuietSource, Sink, Source, World};
 
-/// A recorded world tells what it heard where its source tells what was taken.
+/// A recorded world tells which events passed where its source tells what was taken.
 pub fn world_tells_heard<S: Source, K: Sink>()
-    ensures { (old new : Recorded S K) → Tells S.took old.source new.source → Tells ⟦<ScriptWorld<S, K> as World>⟧.heard old new }
+    ensures { (old new : Recorded S K) → Tells S.took old.source new.source
+        → (g h : List Exchange) → ⟦<ScriptWorld<S, K> as World>⟧.history old g new → ⟦<ScriptWorld<S, K> as World>⟧.history old h new → events_in g ≡ events_in h }
 {}
 
 /// The line of an event, within its bounds, is read as the event.
@@ -63,11 +65,12 @@ pub fn scripts_are_texts()
     ensures { (text : List ℕ) (h : Head) (es : List Event) → script_said text ≡ record { head = Some h; said = record { events = es; bad = None } } → IsScriptText text h es }
 {}
 
-/// A recorded world tells what it did where its sink tells its bytes and no write has failed, among actions of which no line holds a
-/// line feed.
+/// A recorded world tells which actions passed where its sink tells its bytes and no write has failed, among actions of which no line holds
+/// a line feed.
 pub fn world_tells_done<S: Source, K: Sink>()
     ensures { (old new : Recorded S K) → Tells K.gained old.sink new.sink → new.write_failed ≡ false
-        → TellsAmong AreOneActions ⟦<ScriptWorld<S, K> as World>⟧.done old new }
+        → (g h : List Exchange) → AreOneActions (actions_in g) → AreOneActions (actions_in h)
+        → ⟦<ScriptWorld<S, K> as World>⟧.history old g new → ⟦<ScriptWorld<S, K> as World>⟧.history old h new → actions_in g ≡ actions_in h }
 {}
 
 fn movable<T: Send>(value: T) -> T

@@ -1,7 +1,7 @@
 //! Lines, taken from a source in whatever pieces it gives.
 ghost use Rattle.std.specs.Prelude.{◌≡◌, ◌≢◌, ℕ, List, ◌+◌, ◌-◌, ◌<◌, ◌≤◌, [], ◌∷◌, ◌++◌, length, take, drop, slice_index, IfOk, MatchOption, MatchBool, Some, None, ◌⊎◌};
 ghost use Rattle.std.specs.Io.KnownBytes.{IsAtEnd};
-ghost use Rattle.dc_event.specs.Answers.{taken_by};
+ghost use Rattle.dc_event.specs.Answers.{taken_by, IfTaken};
 ghost use Rattle.dc_event.specs.Causes.{Rose};
 ghost use Rattle.dc_script.specs.Lines.{IsOneLine, Finds, FindsNext, count_of};
 
@@ -139,6 +139,7 @@ impl LineRest {
         ensures room { length self.new.rest ≤ 262144 }
         ensures end { result ≡ Taken.Bytes 0 → IsAtEnd (S.left source.new) }
         ensures later { S.faults source.old ≤ S.faults source.new }
+        ensures stays { IfTaken result (S.faults source.new ≡ S.faults source.old) }
         ensures failed { result ≡ Taken.Failed → Rose (S.faults source.old) (S.faults source.new) }
     {
         let held = self.end - self.start;
@@ -172,6 +173,7 @@ impl LineRest {
     pub fn next_line<S: Source>(&mut self, source: &mut S) -> NextLine
         ensures found { FindsNext S.took S.left result self.old source.old self.new source.new }
         ensures later { S.faults source.old ≤ S.faults source.new }
+        ensures stays { result ≢ NextLine.Failed → S.faults source.new ≡ S.faults source.old }
         ensures failed { result ≡ NextLine.Failed → Rose (S.faults source.old) (S.faults source.new) }
     {
         let mut searched: usize = 0;
@@ -210,6 +212,7 @@ fn take_behind<S: Source>(source: &mut S, buffer: &mut [u8], end: usize) -> Take
     ensures front { take end buffer.new ≡ take end buffer.old }
     ensures end { result ≡ Taken.Bytes 0 → IsAtEnd (S.left source.new) }
     ensures later { S.faults source.old ≤ S.faults source.new }
+    ensures stays { IfTaken result (S.faults source.new ≡ S.faults source.old) }
     ensures failed { result ≡ Taken.Failed → Rose (S.faults source.old) (S.faults source.new) }
 {
     source.take(&mut buffer[end..])

@@ -1,5 +1,5 @@
 //! The events of a script, read off a source line by line.
-ghost use Rattle.std.specs.Prelude.{◌≡◌, ◌+◌, ◌*◌, ◌≤◌, ◌<◌, ◌^◌, ℕ, Bool, true, false, List, [], ◌∷◌, ◌++◌, length, IfOk, Some, if◌then◌else◌, bytes_eq, codes};
+ghost use Rattle.std.specs.Prelude.{◌≡◌, ◌≢◌, ◌+◌, ◌*◌, ◌≤◌, ◌<◌, ◌^◌, ℕ, Bool, true, false, List, [], ◌∷◌, ◌++◌, length, IfOk, Some, if◌then◌else◌, bytes_eq, codes};
 ghost use Rattle.std.specs.Io.KnownBytes.{IsAtEnd};
 ghost use Rattle.dc_event.specs.Answers.{heard_by, Warrants};
 ghost use Rattle.dc_event.specs.Causes.{Rose};
@@ -41,6 +41,8 @@ pub(crate) struct Reader<S: Source> {
     pub(crate) ghost started: { start ≤ S.faults source },
     /// A read fails only where the source's count rose.
     pub(crate) ghost caused: { failed ≡ true → Rose start (S.faults source) },
+    /// Where no read has failed, the count is what it was.
+    pub(crate) ghost unfailed: { failed ≡ false → S.faults source ≡ start },
 }
 
 /// So many zero bytes.
@@ -93,6 +95,7 @@ impl<S: Source> Reader<S> {
     pub(crate) fn into_source(self) -> S
         ensures source { result ≡ self.source }
         ensures cause { self.failed ≡ true → Rose self.start (S.faults self.source) }
+        ensures stays { self.failed ≡ false → S.faults self.source ≡ self.start }
     {
         self.source
     }
@@ -105,6 +108,7 @@ impl<S: Source> Reader<S> {
         ensures ended { self.new.ended ≡ self.old.ended }
         ensures start { self.new.start ≡ self.old.start }
         ensures later { S.faults self.old.source ≤ S.faults self.new.source }
+        ensures stays { result ≢ NextLine.Failed → S.faults self.new.source ≡ S.faults self.old.source }
         ensures failed { result ≡ NextLine.Failed → Rose (S.faults self.old.source) (S.faults self.new.source) }
         ensures marked { result ≡ NextLine.Failed → self.new.failed ≡ true }
         ensures stopped { IfStopped result (SaysNoMore (unread self.new.ended self.new.found self.new.rest.line self.new.rest.rest)) (self.new.failed ≡ self.old.failed) }

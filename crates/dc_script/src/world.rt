@@ -4,10 +4,11 @@ ghost use Rattle.std.specs.declared.option.Option.{Option};
 ghost use Rattle.std.specs.Io.KnownBytes.{IsAtEnd};
 ghost use Rattle.std.proofs.Common.{ap};
 ghost use Rattle.dc_model.specs.Event.{Action as ModelAction, Event};
-ghost use Rattle.dc_event.specs.Answers.{heard_by, Warrants};
+ghost use Rattle.dc_event.specs.Answers.{heard_by, IfHeard, Warrants};
 ghost use Rattle.dc_event.specs.Causes.{Rose};
+ghost use Rattle.dc_event.specs.History.{asked, answer_by};
 ghost use Rattle.dc_script.specs.View.{action_of};
-ghost use Rattle.dc_script.specs.World.{Recorded, opened, Acted, HandedOut, Wrote, IsOver, Breaks, Acted-none, Acted-both, Wrote-none, Wrote-both, Acted-wrote, Acted-faults, HandedOut-none, HandedOut-both, Acted-heard, Answered, faults_behind, SaysNoMore};
+ghost use Rattle.dc_script.specs.World.{Recorded, opened, Acted, HandedOut, Passed, IsOver, Breaks, Acted-none, Acted-both, Acted-faults, Acted-passed, Passed-none, Passed-both, Answered, faults_behind, SaysNoMore, IfFailed};
 
 use crate::action::Action;
 use crate::lines::LineRest;
@@ -100,6 +101,8 @@ impl<S: Source, K: Sink> ScriptWorld<S, K> {
         ensures sink { result.1 ≡ self.sink }
         ensures read { self.read_failed ≡ true → Rose self.source_start (S.faults self.source) }
         ensures write { self.write_failed ≡ true → Rose self.sink_start (K.faults self.sink) }
+        ensures read_all { self.read_failed ≡ false → S.faults self.source ≡ self.source_start }
+        ensures wrote_all { self.write_failed ≡ false → K.faults self.sink ≡ self.sink_start }
     {
         (self.reader.into_source(), self.writer.into_sink())
     }
@@ -146,6 +149,7 @@ impl<S: Source, K: Sink> ScriptWorld<S, K> {
             (λ number. Breaks (S.left self.new.source) self.new.unread self.new.lines number × (self.new.write_failed ≡ false))
             (Rose self.new.source_start (S.faults self.new.source) ⊎ Rose self.new.sink_start (K.faults self.new.sink)) }
         ensures stopped { self.old.read_failed ≡ false → self.new.read_failed ≡ true → SaysNoMore self.new.unread }
+        ensures calm { IfFailed result (Unit {0}) (self.new.read_failed ≡ self.old.read_failed) }
         ensures stays { self.old.read_failed ≡ true → self.new ≡ self.old }
         ensures read { self.old.read_failed ≡ true → result ≡ Heard.Failed }
         ensures write { self.old.write_failed ≡ true → result ≡ Heard.Failed }
@@ -230,17 +234,9 @@ impl<S: Source, K: Sink> Effects for ScriptWorld<S, K> {
 }
 
 impl<S: Source, K: Sink> World for ScriptWorld<S, K> {
-    ghost heard = { HandedOut S.took };
-
-    ghost wakes = { λ a xs b. Unit {0} };
-
-    ghost done = { Wrote K.gained };
+    ghost history = { Passed S.took K.gained };
 
     ghost faults = { λ w. w.faults };
-
-    ghost last = { λ w. w.last };
-
-    ghost kept = { λ w. w.kept };
 
     ghost used_up = { λ w. IsAtEnd (S.left w.source) × IsOver w.unread × (w.write_failed ≡ false) };
 
@@ -251,12 +247,10 @@ impl<S: Source, K: Sink> World for ScriptWorld<S, K> {
         Ok(())
     }
 
-    fn next(&mut self, _wake: Option<u64>, inbox: &mut Inbox) -> Heard
-        ensures heard { HandedOut S.took self.old (heard_by result inbox.new) self.new }
-        ensures done { Wrote K.gained self.old [] self.new }
-        ensures last { self.new.last ≡ Some result }
-        ensures kept { self.new.kept ≡ self.old.kept }
+    fn next(&mut self, wake: Option<u64>, inbox: &mut Inbox) -> Heard
+        ensures history { Passed S.took K.gained self.old (asked wake (answer_by result inbox.new) ∷ []) self.new }
         ensures later { self.old.faults ≤ self.new.faults }
+        ensures stays { IfHeard result (self.new.faults ≡ self.old.faults) }
         ensures warrant { Warrants result inbox.new (IsAtEnd (S.left self.new.source) × IsOver self.new.unread × (self.new.write_failed ≡ false))
             (λ number. Breaks (S.left self.new.source) self.new.unread self.new.lines number × (self.new.write_failed ≡ false))
             self.old.faults self.new.faults }
@@ -273,6 +267,7 @@ impl<S: Source, K: Sink> World for ScriptWorld<S, K> {
         ensures read { self.old.read_failed ≡ true → result ≡ Heard.Failed }
         ensures write { self.old.write_failed ≡ true → result ≡ Heard.Failed }
     {
+        let _ = wake;
         let answer = self.hear(inbox);
         self.note(answer);
         answer
@@ -282,27 +277,11 @@ impl<S: Source, K: Sink> World for ScriptWorld<S, K> {
         self.faults
     }
 
-    ghost heard_none = { HandedOut-none S.took S.took_none S.took_both };
+    ghost history_none = { Passed-none S.took S.took_none S.took_both K.gained K.gained_none K.gained_both };
 
-    ghost heard_both = { HandedOut-both S.took S.took_none S.took_both };
+    ghost history_both = { Passed-both S.took S.took_none S.took_both K.gained K.gained_none K.gained_both };
 
-    ghost wakes_none = { λ a. tt };
-
-    ghost wakes_both = { λ a b c xs ys p q. tt };
-
-    ghost done_none = { Wrote-none K.gained K.gained_none K.gained_both };
-
-    ghost done_both = { Wrote-both K.gained K.gained_none K.gained_both };
-
-    ghost acted_done = { Acted-wrote K.gained };
-
-    ghost acted_heard = { Acted-heard S.took S.took_none S.took_both K.gained };
-
-    ghost acted_wakes = { λ a b xs p. tt };
+    ghost acted_history = { Acted-passed S.took S.took_none S.took_both K.gained K.gained_none K.gained_both };
 
     ghost acted_faults = { Acted-faults K.gained };
-
-    ghost acted_last = { λ a b xs p. ap (λ w. w.last) p.same };
-
-    ghost acted_kept = { λ a b xs p. ap (λ w. w.kept) p.same };
 }

@@ -1,6 +1,7 @@
 //! Writing actions to a sink, each at once.
 ghost use Rattle.std.specs.Prelude.{◌≡◌, ◌≤◌, ◌+◌, [], ◌++◌, ◌∷◌, length, true, false};
 ghost use Rattle.arrayvec.specs.ArrayVec.{array_vec_len};
+ghost use Rattle.dc_event.specs.Answers.{IfPut};
 ghost use Rattle.dc_event.specs.Causes.{Rose};
 ghost use Rattle.dc_script.specs.Put.{Passed, PutWhole};
 ghost use Rattle.dc_model.specs.Line.{hex};
@@ -19,6 +20,7 @@ fn flush<K: Sink>(sink: &mut K, text: &mut Buffer) -> bool
     ensures put { Passed K.gained result sink.old text.old.items [] sink.new text.new.items }
     ensures empty { text.new.items ≡ [] }
     ensures later { K.faults sink.old ≤ K.faults sink.new }
+    ensures stays { result ≡ true → K.faults sink.new ≡ K.faults sink.old }
     ensures cause { result ≡ false → Rose (K.faults sink.old) (K.faults sink.new) }
 {
     let put = put_all(sink, text.as_slice());
@@ -35,6 +37,7 @@ fn make_room<K: Sink>(sink: &mut K, text: &mut Buffer, count: usize) -> bool
     ensures put { Passed K.gained result sink.old text.old.items [] sink.new text.new.items }
     ensures room { array_vec_len text.new + count ≤ ROOM }
     ensures later { K.faults sink.old ≤ K.faults sink.new }
+    ensures stays { result ≡ true → K.faults sink.new ≡ K.faults sink.old }
     ensures cause { result ≡ false → Rose (K.faults sink.old) (K.faults sink.new) }
 {
     if text.remaining_capacity() < count {
@@ -49,6 +52,7 @@ fn write_piece<K: Sink>(sink: &mut K, text: &mut Buffer, piece: &[u8]) -> bool
     requires { length piece.now ≤ ROOM }
     ensures put { Passed K.gained result sink.old text.old.items piece.now sink.new text.new.items }
     ensures later { K.faults sink.old ≤ K.faults sink.new }
+    ensures stays { result ≡ true → K.faults sink.new ≡ K.faults sink.old }
     ensures cause { result ≡ false → Rose (K.faults sink.old) (K.faults sink.new) }
 {
     if !make_room(sink, text, piece.len()) {
@@ -62,6 +66,7 @@ fn write_piece<K: Sink>(sink: &mut K, text: &mut Buffer, piece: &[u8]) -> bool
 fn write_text<K: Sink>(sink: &mut K, text: &mut Buffer, bytes: &[u8]) -> bool
     ensures put { Passed K.gained result sink.old text.old.items bytes.now sink.new text.new.items }
     ensures later { K.faults sink.old ≤ K.faults sink.new }
+    ensures stays { result ≡ true → K.faults sink.new ≡ K.faults sink.old }
     ensures cause { result ≡ false → Rose (K.faults sink.old) (K.faults sink.new) }
 {
     let mut at: usize = 0;
@@ -80,6 +85,7 @@ fn write_digits<K: Sink>(sink: &mut K, text: &mut Buffer, piece: &[u8]) -> bool
     requires { length piece.now ≤ PIECE }
     ensures put { Passed K.gained result sink.old text.old.items (hex piece.now) sink.new text.new.items }
     ensures later { K.faults sink.old ≤ K.faults sink.new }
+    ensures stays { result ≡ true → K.faults sink.new ≡ K.faults sink.old }
     ensures cause { result ≡ false → Rose (K.faults sink.old) (K.faults sink.new) }
 {
     let mut digits = [0u8; 2 * PIECE];
@@ -94,6 +100,7 @@ fn write_digits<K: Sink>(sink: &mut K, text: &mut Buffer, piece: &[u8]) -> bool
 fn write_hex<K: Sink>(sink: &mut K, text: &mut Buffer, bytes: &[u8]) -> bool
     ensures put { Passed K.gained result sink.old text.old.items (hex bytes.now) sink.new text.new.items }
     ensures later { K.faults sink.old ≤ K.faults sink.new }
+    ensures stays { result ≡ true → K.faults sink.new ≡ K.faults sink.old }
     ensures cause { result ≡ false → Rose (K.faults sink.old) (K.faults sink.new) }
 {
     let mut at: usize = 0;
@@ -111,6 +118,7 @@ fn write_hex<K: Sink>(sink: &mut K, text: &mut Buffer, bytes: &[u8]) -> bool
 fn write_rest<K: Sink>(sink: &mut K, text: &mut Buffer, rest: Rest<'_>) -> bool
     ensures put { Passed K.gained result sink.old text.old.items (rest_text rest.entry) sink.new text.new.items }
     ensures later { K.faults sink.old ≤ K.faults sink.new }
+    ensures stays { result ≡ true → K.faults sink.new ≡ K.faults sink.old }
     ensures cause { result ≡ false → Rose (K.faults sink.old) (K.faults sink.new) }
 {
     match rest {
@@ -126,6 +134,7 @@ fn write_rest<K: Sink>(sink: &mut K, text: &mut Buffer, rest: Rest<'_>) -> bool
 pub fn write_action<K: Sink>(sink: &mut K, action: Action<'_>) -> Put
     ensures put { PutWhole K.gained result sink.old (action_text (action_of action.entry)) sink.new }
     ensures later { K.faults sink.old ≤ K.faults sink.new }
+    ensures stays { IfPut result (K.faults sink.new ≡ K.faults sink.old) }
     ensures cause { result ≡ Put.Failed → Rose (K.faults sink.old) (K.faults sink.new) }
 {
     let mut text = Buffer::new();
@@ -142,6 +151,7 @@ pub fn write_action<K: Sink>(sink: &mut K, action: Action<'_>) -> Put
 fn finish<K: Sink>(sink: &mut K, text: &mut Buffer, rest: Rest<'_>) -> bool
     ensures put { Passed K.gained result sink.old text.old.items (rest_text rest.entry ++ 10 ∷ []) sink.new [] }
     ensures later { K.faults sink.old ≤ K.faults sink.new }
+    ensures stays { result ≡ true → K.faults sink.new ≡ K.faults sink.old }
     ensures cause { result ≡ false → Rose (K.faults sink.old) (K.faults sink.new) }
 {
     if !write_rest(sink, text, rest) {

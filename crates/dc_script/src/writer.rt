@@ -18,6 +18,8 @@ pub(crate) struct Writer<K: Sink> {
     pub(crate) ghost started: { start ≤ K.faults sink },
     /// A write fails only where the sink's count rose.
     pub(crate) ghost caused: { failed ≡ true → Rose start (K.faults sink) },
+    /// Where no write has failed, the count is what it was.
+    pub(crate) ghost unfailed: { failed ≡ false → K.faults sink ≡ start },
 }
 
 impl<K: Sink> Writer<K> {
@@ -39,6 +41,7 @@ impl<K: Sink> Writer<K> {
     pub(crate) fn into_sink(self) -> K
         ensures sink { result ≡ self.sink }
         ensures cause { self.failed ≡ true → Rose self.start (K.faults self.sink) }
+        ensures stays { self.failed ≡ false → K.faults self.sink ≡ self.start }
     {
         self.sink
     }

@@ -4,8 +4,8 @@
 ghost use Rattle.std.specs.Prelude.{◌≡◌, ℕ, ◌+◌, ◌^◌, ◌≤◌, min, List, length};
 ghost use Rattle.dc_model.specs.Draws.{draws_of};
 ghost use Rattle.dc_model.specs.Event.{Event};
-ghost use Rattle.dc_event.specs.Automaton.{Automaton};
-ghost use Rattle.dc_serve.specs.Serve.{Serves, Justified};
+ghost use Rattle.dc_engine.specs.Automaton.{Automaton};
+ghost use Rattle.dc_serve.specs.Serve.{passes, Ran, IfServed, Justified};
 
 #[cfg(test)]
 mod tests;
@@ -42,12 +42,12 @@ pub fn serve<W: World, E: Engine>(
 ) -> Served
     requires events { E.machine.handled (E.state engine.old) + min turns (2 ^ 60) ≤ 2 ^ 60 }
     requires words { draws.old.given + min turns (2 ^ 60) ≤ 2 ^ 60 }
-    ensures run { (events : List Event) × (
-        Serves W.heard W.wakes W.done W.last E.machine (draws_of draws.old.seed) draws.old.given
-        (E.state engine.old) (E.state engine.new) world.old world.new (min turns (2 ^ 60)) result events
-        × (draws.new ≡ record { seed = draws.old.seed; given = draws.old.given + length events })) }
-    ensures kept { W.kept world.new ≡ W.kept world.old }
+    ensures run { (events : List Event) ×
+        W.history world.old (passes E.machine (draws_of draws.old.seed) draws.old.given (E.state engine.old) events result) world.new
+        × Ran E.machine (draws_of draws.old.seed) draws.old.given (E.state engine.old) (E.state engine.new) (min turns (2 ^ 60)) events result
+        × (draws.new ≡ record { seed = draws.old.seed; given = draws.old.given + length events }) }
     ensures later { W.faults world.old ≤ W.faults world.new }
+    ensures stays { IfServed result (W.faults world.new ≡ W.faults world.old) }
     ensures justified { Justified result (W.used_up world.new) (W.broken world.new) (W.faults world.old) (W.faults world.new) }
 {
     let limit = turns.min(MOST_EVENTS);

@@ -4,6 +4,7 @@ ghost use Rattle.std.specs.declared.option.Option.{Option};
 ghost use Rattle.std.proofs.Common.{rules, ◌∙◌};
 ghost use Rattle.std.proofs.lemmas.Grind.{common_steps};
 ghost use Rattle.dc_model.specs.Event.{line};
+ghost use Rattle.dc_event.specs.History.{events_in, events-both, events-done};
 
 use crate::{Served, serve};
 use dc_draws::Draws;
@@ -62,12 +63,11 @@ struct Requests {
     lines: u64,
     wake: Option<u64>,
     faults: u64,
-    last: Option<Heard>,
     kept: Option<([u8; 4], [u8; 4])>,
 }
 
 impl Effects for Requests {
-    ghost acted = { λ a xs b. (b.left ≡ a.left) × (b.last ≡ a.last) × (b.kept ≡ a.kept) × (b.faults ≡ a.faults) };
+    ghost acted = { λ a xs b. (b.left ≡ a.left) × (b.faults ≡ a.faults) };
 
     fn reply(&mut self, _addr: [u8; 4], _port: u16, _bytes: &[u8]) {}
 
@@ -87,23 +87,15 @@ impl Effects for Requests {
         self.lines = self.lines.saturating_add(1);
     }
 
-    ghost acted_none = { λ a. (refl, refl, refl, refl) };
+    ghost acted_none = { λ a. (refl, refl) };
 
-    ghost acted_both = { λ a b c xs ys p q. (q.0 ∙ p.0, q.1 ∙ p.1, q.2 ∙ p.2, q.3 ∙ p.3) };
+    ghost acted_both = { λ a b c xs ys p q. (q.0 ∙ p.0, q.1 ∙ p.1) };
 }
 
 impl World for Requests {
-    ghost heard = { λ a xs b. a.left ≡ b.left + length xs };
-
-    ghost wakes = { λ a xs b. Unit {0} };
-
-    ghost done = { λ a xs b. Unit {0} };
+    ghost history = { λ a h b. a.left ≡ b.left + length (events_in h) };
 
     ghost faults = { λ w. w.faults };
-
-    ghost last = { λ w. w.last };
-
-    ghost kept = { λ w. w.kept };
 
     ghost used_up = { λ w. w.left ≡ 0 };
 
@@ -127,19 +119,15 @@ impl World for Requests {
                 len: 2,
             };
             inbox.set(event, b"hi");
-            self.last = Some(Heard::Event);
             return Heard::Event;
         }
         if self.faulty {
             self.faults = self.faults.saturating_add(1);
-            self.last = Some(Heard::Failed);
             return Heard::Failed;
         }
         if self.bad > 0 {
-            self.last = Some(Heard::Bad { line: self.bad });
             return Heard::Bad { line: self.bad };
         }
-        self.last = Some(Heard::End);
         Heard::End
     }
 
@@ -147,29 +135,13 @@ impl World for Requests {
         self.faults
     }
 
-    ghost heard_none = { λ a. Prim.search (rules, common_steps) };
+    ghost history_none = { λ a. Prim.search (rules, common_steps) };
 
-    ghost heard_both = { λ a b c xs ys p q. Prim.search (rules, common_steps) };
+    ghost history_both = { λ a b c xs ys p q. Prim.search (rules, common_steps, events-both xs ys) };
 
-    ghost wakes_none = { λ a. tt };
+    ghost acted_history = { λ a b xs p. Prim.search (rules, common_steps, events-done xs) };
 
-    ghost wakes_both = { λ a b c xs ys p q. tt };
-
-    ghost done_none = { λ a. tt };
-
-    ghost done_both = { λ a b c xs ys p q. tt };
-
-    ghost acted_done = { λ a b xs p. tt };
-
-    ghost acted_heard = { λ a b xs p. Prim.search (rules, common_steps) };
-
-    ghost acted_wakes = { λ a b xs p. tt };
-
-    ghost acted_faults = { λ a b xs p. Prim.search (rules, common_steps) };
-
-    ghost acted_last = { λ a b xs p. p.1 };
-
-    ghost acted_kept = { λ a b xs p. p.2 };
+    ghost acted_faults = { λ a b xs p. p.1 };
 }
 
 /// Requests, the greatest number of lines of the engine, turns, and then how the world goes on; the answer, lines written and the last wake.
@@ -198,7 +170,6 @@ fn serves(rt: HostRuntime) -> Result<(), Fail> {
             lines: 0,
             wake: None,
             faults: 0,
-            last: None,
             kept: None,
         };
         let mut draws = Draws::from_seed([7; 32]);

@@ -1,12 +1,13 @@
 -- What contracts see of a world of sockets.
-use Rattle.std.specs.Prelude.{◌≡◌, ℕ, ◌≤◌, Bool, true, false, List, [], ◌++◌, refl}
-use Rattle.std.proofs.Common.{◌∙◌, ap, arith}
+use Rattle.std.specs.Prelude.{◌≡◌, ℕ, Bool, true, false, List, [], ◌∷◌, ◌++◌, refl}
+use Rattle.std.proofs.Common.{sym, ◌∙◌, ap}
 use Rattle.std.specs.declared.option.Option.{Option}
-use Rattle.std.specs.declared.option.Option.TheVariants.{None}
+use Rattle.std.specs.declared.option.Option.TheVariants.{None, Some}
 use Rattle.dc_model.specs.Event.{Action, Event as ModelEvent, IsEvent}
 use Rattle.dc_event.specs.declared.answers.Heard.{Heard as Answer}
 use Rattle.dc_event.specs.declared.answers.Heard.TheVariants as answer
 use Rattle.dc_event.specs.Causes.{counted}
+use Rattle.dc_event.specs.History.{Exchange, asked, answer_by, heard_of, done_all, last_in, kept_in, last-both, kept-both, last-done, kept-done}
 use Rattle.dc_sock.specs.Numbers.{Numbers}
 use Rattle.dc_sock.specs.declared.sockets.Turn.{Turn}
 use Rattle.dc_sock.specs.declared.sockets.Turn.TheVariants as turn
@@ -50,14 +51,39 @@ Acted-both a b c xs ys p q = record {
   stays = λ h. q.stays (p.stays h);
 }
 
-pub Acted-faults : (a b : Shown) (actions : List Action) → Acted a actions b → a.faults ≤ b.faults
-Acted-faults a b actions p = let e : b.faults ≡ a.faults = ap (λ s. s.faults) p.same in omega (arith, e)
+pub Acted-faults : (a b : Shown) (actions : List Action) → Acted a actions b → b.faults ≡ a.faults
+Acted-faults a b actions p = ap (λ s. s.faults) p.same
 
-pub Acted-last : (a b : Shown) (actions : List Action) → Acted a actions b → b.last ≡ a.last
-Acted-last a b actions p = ap (λ s. s.last) p.same
+-- What passed, of which no more is told than the last answer and the addresses that are kept.
+pub record Passed (old : Shown) (history : List Exchange) (new : Shown) : Type 0 where
+  pub answered : new.last ≡ last_in old.last history
+  pub kept_addresses : new.kept ≡ kept_in old.kept history
 
-pub Acted-kept : (a b : Shown) (actions : List Action) → Acted a actions b → b.kept ≡ a.kept
-Acted-kept a b actions p = ap (λ s. s.kept) p.same
+pub Passed-none : (a : Shown) → Passed a [] a
+Passed-none a = record { answered = refl; kept_addresses = refl }
+
+pub Passed-both : (a b c : Shown) (g h : List Exchange) → Passed a g b → Passed b h c → Passed a (g ++ h) c
+Passed-both a b c g h p q = record {
+  answered = q.answered ∙ ap (λ l. last_in l h) p.answered ∙ sym (last-both a.last g h);
+  kept_addresses = q.kept_addresses ∙ ap (λ l. kept_in l h) p.kept_addresses ∙ sym (kept-both a.kept g h);
+}
+
+-- Where a list was acted, that is all that passed.
+pub Acted-passed : (a b : Shown) (xs : List Action) → Acted a xs b → Passed a (done_all xs) b
+Acted-passed a b xs p = record {
+  answered = ap (λ s. s.last) p.same ∙ sym (last-done a.last xs);
+  kept_addresses = ap (λ s. s.kept) p.same ∙ sym (kept-done a.kept xs);
+}
+
+answered_by : (a : Answer) (e : ModelEvent) → a ≡ heard_of (answer_by a e)
+answered_by answer.Event e = refl
+answered_by answer.End e = refl
+answered_by answer.Failed e = refl
+answered_by (answer.Bad line) e = refl
+
+-- A call of `next` keeps its answer.
+pub Passed-next : (a b : Shown) (wake : Option ℕ) (heard : Answer) (e : ModelEvent) → b.last ≡ Some heard → b.kept ≡ a.kept → Passed a (asked wake (answer_by heard e) ∷ []) b
+Passed-next a b wake heard e last kept = record { answered = last ∙ ap (λ x. Some x) (answered_by heard e); kept_addresses = kept }
 
 -- What `next` leaves in the inbox: an event within its bounds, or it failed. It never ends, and there are no lines.
 abbrev pub Gives : Answer → ModelEvent → Type 0

@@ -1,7 +1,7 @@
 //! What a source gives.
 ghost use Rattle.std.specs.Prelude.{◌≡◌, ◌≤◌, ◌<◌, ◌^◌, length, take};
 ghost use Rattle.dc_model.specs.Event.{IsEvent};
-ghost use Rattle.dc_event.specs.View.{event_of};
+ghost use Rattle.dc_engine.specs.View.{event_of};
 
 use dc_event::{Event, Inbox, Kind};
 

@@ -2,9 +2,10 @@
 ghost use Rattle.std.specs.Prelude.{◌≡◌, ◌≤◌, ℕ, List, [], ◌∷◌, ◌++◌, IfOk, Some, true, false};
 ghost use Rattle.std.specs.declared.option.Option.{Option};
 ghost use Rattle.dc_model.specs.Event.{IsEvent};
-ghost use Rattle.dc_event.specs.Answers.{Warrants};
+ghost use Rattle.dc_event.specs.Answers.{IfHeard, Warrants};
 ghost use Rattle.dc_event.specs.Causes.{Rose, counted};
-ghost use Rattle.dc_sock.specs.World.{Shown, Acted, Acted-none, Acted-both, Acted-faults, Acted-last, Acted-kept, Gives, fresh, faults_behind, AnswerNumbers};
+ghost use Rattle.dc_event.specs.History.{asked, answer_by};
+ghost use Rattle.dc_sock.specs.World.{Shown, Acted, Acted-none, Acted-both, Acted-faults, Passed, Passed-none, Passed-both, Acted-passed, Gives, fresh, faults_behind, AnswerNumbers};
 
 use crate::sockets::{Sockets, Turn};
 use dc_event::{Effects, Heard, Inbox, World, WorldFailed};
@@ -164,17 +165,9 @@ impl<R: Net + Eprint> Effects for SocketWorld<R> {
 }
 
 impl<R: Net + Wait + Clock + Eprint> World for SocketWorld<R> {
-    ghost heard = { λ a xs b. Unit {0} };
-
-    ghost wakes = { λ a xs b. Unit {0} };
-
-    ghost done = { λ a xs b. Unit {0} };
+    ghost history = { Passed };
 
     ghost faults = { λ w. w.faults };
-
-    ghost last = { λ w. w.last };
-
-    ghost kept = { λ w. w.kept };
 
     /// It never ends.
     ghost used_up = { λ w. ⊥ };
@@ -193,12 +186,9 @@ impl<R: Net + Wait + Clock + Eprint> World for SocketWorld<R> {
     }
 
     fn next(&mut self, wake: Option<u64>, inbox: &mut Inbox) -> Heard
-        ensures heard { Unit {0} }
-        ensures wakes { Unit {0} }
-        ensures done { Unit {0} }
-        ensures last { self.new.last ≡ Some result }
-        ensures kept { self.new.kept ≡ self.old.kept }
+        ensures history { Passed self.old (asked wake (answer_by result inbox.new) ∷ []) self.new }
         ensures later { self.old.faults ≤ self.new.faults }
+        ensures stays { IfHeard result (self.new.faults ≡ self.old.faults) }
         ensures warrant { Warrants result inbox.new ⊥ (λ number. ⊥) self.old.faults self.new.faults }
         ensures same { self.new ≡ record self.old {
           faults = faults_behind result self.old.faults;
@@ -218,27 +208,11 @@ impl<R: Net + Wait + Clock + Eprint> World for SocketWorld<R> {
         self.faults
     }
 
-    ghost heard_none = { λ a. tt };
+    ghost history_none = { Passed-none };
 
-    ghost heard_both = { λ a b c xs ys p q. tt };
+    ghost history_both = { Passed-both };
 
-    ghost wakes_none = { λ a. tt };
-
-    ghost wakes_both = { λ a b c xs ys p q. tt };
-
-    ghost done_none = { λ a. tt };
-
-    ghost done_both = { λ a b c xs ys p q. tt };
-
-    ghost acted_done = { λ a b xs p. tt };
-
-    ghost acted_heard = { λ a b xs p. tt };
-
-    ghost acted_wakes = { λ a b xs p. tt };
+    ghost acted_history = { Acted-passed };
 
     ghost acted_faults = { Acted-faults };
-
-    ghost acted_last = { Acted-last };
-
-    ghost acted_kept = { Acted-kept };
 }

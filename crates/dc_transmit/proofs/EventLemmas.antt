@@ -4,10 +4,10 @@ use Rattle.dc_model.specs.Event.{Event}
 use Rattle.dc_model.specs.Transmission.{Attempt, Occasion, After, stays, is_from_server, after_datagram, after_link_bytes, after_link_up, after_refusal, bad_news, after_tick, after_link_event, after_kind, after_event}
 use Rattle.dc_transmit.specs.Attempts.{occasion}
 use Rattle.dc_transmit.proofs.TestLemmas.{eq_no, eq_yes}
-use Rattle.dc_event.specs.View.{kind_of, event_of}
-use Rattle.dc_event.specs.declared.events.Event.{Event as CodeEvent}
-use Rattle.dc_event.specs.declared.events.Kind.{Kind as CodeKind}
-use Rattle.dc_event.specs.declared.events.Kind.TheVariants.{Tick, Request, Datagram, LinkUp, LinkBytes, LinkDown, BindRefused, ConnUp, ConnBytes, ConnDown}
+use Rattle.dc_engine.specs.View.{kind_of, event_of}
+use Rattle.dc_engine.specs.declared.events.Event.{Event as CodeEvent}
+use Rattle.dc_engine.specs.declared.events.Kind.{Kind as CodeKind}
+use Rattle.dc_engine.specs.declared.events.Kind.TheVariants.{Tick, Request, Datagram, LinkUp, LinkBytes, LinkDown, BindRefused, ConnUp, ConnBytes, ConnDown}
 
 -- What follows an event on the link, by the kind that the code reads.
 abbrev pub link_event : CodeKind → Event → Attempt → Occasion → After

@@ -5,7 +5,7 @@ use crate::places::{NO_ADDRESS, Servers};
 use crate::progress::Progress;
 use crate::round::Round;
 use dc_draws::{id_of, port_of};
-use dc_event::Effects;
+use dc_engine::Effects;
 use dc_name::Name;
 use dc_packet::{QueryBytes, write_query};
 use std::alloc::{AllocError, Global};

@@ -2,7 +2,7 @@
 use crate::attempt::Attempt;
 use crate::progress::Progress;
 use crate::relevance::{is_served, is_truncated};
-use dc_event::{Effects, Event, Inbox, Kind};
+use dc_engine::{Effects, Event, Inbox, Kind};
 use dc_packet::{QueryBytes, Question, question_of, u16_at};
 
 /// The class of the internet.
@@ -21,7 +21,7 @@ impl Attempt {
     ghost use Rattle.std.specs.Prelude.{◌≡◌, ◌≤◌, ◌<◌, ◌^◌, ◌&&◌, not, length, IsTrue, IfSome, MatchOption, Some, true, false, []};
     ghost use Rattle.dc_model.specs.Transmission.{asks_for, is_relevant, is_from_server, accepted, answered, after_datagram, after_link_bytes, after_link_up, after_refusal, after_tick, after_link_event, after_event, is_whole};
     ghost use Rattle.dc_packet.specs.Question.{question_read};
-    ghost use Rattle.dc_event.specs.View.{event_of};
+    ghost use Rattle.dc_engine.specs.View.{event_of};
     ghost use Rattle.dc_transmit.specs.Rounds.{is_stream};
     ghost use Rattle.dc_transmit.specs.Gathered.{message_of};
     ghost use Rattle.dc_transmit.specs.Attempts.{attempt_of, occasion, is_good, Did};

@@ -1,6 +1,6 @@
 //! Transmissions event by event, with all random words 0: the id is 0 and the local port is 1025.
 use crate::{Progress, Transmit};
-use dc_event::{Effects, Event, Inbox, Kind};
+use dc_engine::{Effects, Event, Inbox, Kind};
 use dc_name::Name;
 use std::process::Abort;
 use std::test::Fail;

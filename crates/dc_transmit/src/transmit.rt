@@ -7,7 +7,7 @@ ghost use Rattle.dc_transmit.specs.Standing.{idle, standing_at, answer_of, close
 
 use crate::attempt::{Asked, Attempt};
 use crate::progress::Progress;
-use dc_event::{Effects, Inbox};
+use dc_engine::{Effects, Inbox};
 use dc_name::Name;
 use std::alloc::{AllocError, Global};
 use std::marker::Model;

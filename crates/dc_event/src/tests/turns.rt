@@ -1,13 +1,14 @@
 //! An engine and a world through their bounds: the world hands out ticks and tells the wakes that it was given.
-ghost use Rattle.std.specs.Prelude.{◌≡◌, ◌+◌, ◌<◌, ◌^◌, ℕ, [], ◌∷◌, ◌++◌, length, Some, None, false, if◌then◌else◌, refl};
+ghost use Rattle.std.specs.Prelude.{◌≡◌, ◌+◌, ◌<◌, ◌^◌, ℕ, List, [], ◌∷◌, ◌++◌, length, Some, None, false, if◌then◌else◌, refl};
 ghost use Rattle.std.specs.declared.option.Option.{Option};
 ghost use Rattle.std.proofs.Common.{rules};
 ghost use Rattle.std.proofs.lemmas.Grind.{common_steps};
-ghost use Rattle.dc_model.specs.Event.{reply};
+ghost use Rattle.dc_model.specs.Event.{Action, Event as ModelEvent, reply};
 ghost use Rattle.dc_event.specs.Bytes.{Grows-none, Grows-both};
+ghost use Rattle.dc_event.specs.History.{Exchange, asked, answer_by, done_all, events_in, wakes_in, events-both, wakes-both, events-done, wakes-done};
 ghost use Rattle.dc_event.specs.Told.{Grows};
 
-use crate::{Effects, Engine, Event, Heard, Inbox, Kind, World, WorldFailed};
+use crate::{BatchWorld, Effects, Engine, Event, Heard, Inbox, Kind, World, WorldFailed};
 use std::test::Fail;
 
 /// Sends each event's bytes back, and wants a tick at the moment that is the number of events handled.
@@ -56,12 +57,11 @@ struct Ticks {
     wakes: Vec<Option<u64>>,
     told: bool,
     replies: u64,
-    last: Option<Heard>,
     kept: Option<([u8; 4], [u8; 4])>,
 }
 
 impl Effects for Ticks {
-    ghost acted = { λ a xs b. (b.left ≡ a.left) × (b.wakes ≡ a.wakes) × (b.told ≡ a.told) × (b.last ≡ a.last) × (b.kept ≡ a.kept) };
+    ghost acted = { λ a xs b. (b.left ≡ a.left) × (b.wakes ≡ a.wakes) × (b.told ≡ a.told) };
 
     fn reply(&mut self, _addr: [u8; 4], _port: u16, _bytes: &[u8]) {
         self.replies = self.replies.saturating_add(1);
@@ -87,17 +87,9 @@ impl Effects for Ticks {
 }
 
 impl World for Ticks {
-    ghost heard = { λ a xs b. a.left ≡ b.left + length xs };
-
-    ghost wakes = { λ a xs b. Grows (if a.told then Some a.wakes.items else None) xs (if b.told then Some b.wakes.items else None) };
-
-    ghost done = { λ a xs b. Unit {0} };
+    ghost history = { λ a h b. (a.left ≡ b.left + length (events_in h)) × Grows (if a.told then Some a.wakes.items else None) (wakes_in h) (if b.told then Some b.wakes.items else None) };
 
     ghost faults = { λ w. 0 };
-
-    ghost last = { λ w. w.last };
-
-    ghost kept = { λ w. w.kept };
 
     ghost used_up = { λ w. w.left ≡ 0 };
 
@@ -113,7 +105,6 @@ impl World for Ticks {
             self.told = false;
         }
         if self.left == 0 {
-            self.last = Some(Heard::End);
             return Heard::End;
         }
         self.left -= 1;
@@ -126,7 +117,6 @@ impl World for Ticks {
             len: 0,
         };
         inbox.set(event, &[]);
-        self.last = Some(Heard::Event);
         Heard::Event
     }
 
@@ -134,35 +124,52 @@ impl World for Ticks {
         0
     }
 
-    ghost heard_none = { λ a. Prim.search (rules, common_steps) };
+    ghost history_none = { λ a. Prim.search (rules, common_steps, Grows-none (if a.told then Some a.wakes.items else None)) };
 
-    ghost heard_both = { λ a b c xs ys p q. Prim.search (rules, common_steps) };
+    ghost history_both = { λ a b c xs ys p q. Prim.rw (events-both xs ys, wakes-both xs ys) (
+      Prim.search (rules, common_steps),
+      Grows-both (if a.told then Some a.wakes.items else None) (if b.told then Some b.wakes.items else None) (if c.told then Some c.wakes.items else None) (wakes_in xs) (wakes_in ys) p.1 q.1,
+    ) };
 
-    ghost wakes_none = { λ a. Grows-none (if a.told then Some a.wakes.items else None) };
+    ghost acted_history = { λ a b xs p. Prim.rw (events-done xs, wakes-done xs) (Prim.search (rules, common_steps)) };
 
-    ghost wakes_both = { λ a b c xs ys p q. Grows-both (if a.told then Some a.wakes.items else None) (if b.told then Some b.wakes.items else None) (if c.told then Some c.wakes.items else None) xs ys p q };
+    ghost acted_faults = { λ a b xs p. refl };
+}
 
-    ghost done_none = { λ a. tt };
+impl BatchWorld for Ticks {
+    fn more(&mut self, inbox: &mut Inbox) -> bool {
+        if self.left == 0 {
+            return false;
+        }
+        self.left -= 1;
+        let event = Event {
+            now: 6,
+            kind: Kind::Tick,
+            id: 0,
+            addr: [0; 4],
+            port: 0,
+            len: 0,
+        };
+        inbox.set(event, &[]);
+        true
+    }
+}
 
-    ghost done_both = { λ a b c xs ys p q. tt };
-
-    ghost acted_done = { λ a b xs p. tt };
-
-    ghost acted_heard = { λ a b xs p. Prim.search (rules, common_steps) };
-
-    ghost acted_wakes = { λ a b xs p. Prim.search (rules, common_steps) };
-
-    ghost acted_faults = { λ a b xs p. Prim.search rules };
-
-    ghost acted_last = { λ a b xs p. p.3 };
-
-    ghost acted_kept = { λ a b xs p. p.4 };
+/// Hears once, and gathers one more event where one has come.
+fn gather<W: BatchWorld>(world: &mut W, inbox: &mut Inbox) -> Heard
+    ensures { (e : ModelEvent) × (more : List Exchange) × W.history world.old (asked None (answer_by result e) ∷ more) world.new × (wakes_in more ≡ []) }
+{
+    let heard = world.next(None, inbox);
+    if let Heard::Event = heard {
+        let _ = world.more(inbox);
+    }
+    heard
 }
 
 /// Hears once, and hands the event to the engine.
 fn turn<W: World, E: Engine>(world: &mut W, engine: &mut E, inbox: &mut Inbox) -> Heard
     requires { E.machine.handled (E.state engine.old) < 2 ^ 60 }
-    ensures { W.wakes world.old (E.machine.wake (E.state engine.old) ∷ []) world.new }
+    ensures { (xs : List Action) × W.history world.old (asked (E.machine.wake (E.state engine.old)) (answer_by result inbox.new) ∷ done_all xs) world.new }
 {
     let heard = world.next(engine.wake(), inbox);
     if let Heard::Event = heard {
@@ -181,7 +188,6 @@ fn turns(rt: HostRuntime) -> Result<(), Fail> {
         wakes: Vec::new(alloc),
         told: true,
         replies: 0,
-        last: None,
         kept: None,
     };
     engine.launch(&mut world);
@@ -198,6 +204,10 @@ fn turns(rt: HostRuntime) -> Result<(), Fail> {
         (engine.finished(), world.replies, World::faults(&world)),
         (false, 2, 0)
     );
+    world.left = 3;
+    assert_eq!(rt; gather(&mut world, &mut inbox), Heard::Event);
+    assert_eq!(rt; (world.left, inbox.event().now), (1, 6));
+    assert!(rt; gather(&mut world, &mut inbox) == Heard::Event && !world.more(&mut inbox));
     assert_eq!(rt; world.kept, Some(([10, 0, 0, 1], [10, 0, 0, 2])));
     Ok(())
 }

@@ -1,6 +1,6 @@
 //! What is done, as text.
 
-use dc_event::Effects;
+use dc_engine::Effects;
 use dc_lines::{Line, line_sent};
 use std::alloc::{AllocError, Global};
 

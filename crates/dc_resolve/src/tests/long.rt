@@ -4,7 +4,7 @@ use super::log::Log;
 use super::packets::{MX, Record, TXT, front, put_record};
 use super::{NOW, begin, desk, go_on, leave, set};
 use crate::{Cause, Desk, Outcome};
-use dc_event::{Inbox, Kind};
+use dc_engine::{Inbox, Kind};
 use dc_frames::Query;
 use dc_name::Name;
 use dc_packet::{Request, Section};

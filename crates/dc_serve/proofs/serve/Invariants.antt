@@ -7,12 +7,10 @@ use Rattle.dc_serve.proofs.serve.Given as goal
 abbrev pub invariant-events : goal.invariant-events
 invariant-events g l =
     (events : List Event) × record {
-      so_far : SoFar g.W.World.heard g.W.World.wakes g.W.World.done g.W.World.last g.E.Engine.machine
-          (draws_of l.fn.draws.seed) l.fn.draws.given (g.E.Engine.state l.fn.engine) (g.E.Engine.state l.engine)
+      so_far : SoFar g.W.World.history g.E.Engine.machine (draws_of l.fn.draws.seed) l.fn.draws.given (g.E.Engine.state l.fn.engine) (g.E.Engine.state l.engine)
           l.fn.world l.world l.handled events;
       drawn : l.draws ≡ record { seed = l.fn.draws.seed; given = l.fn.draws.given + length events };
-      kept : g.W.World.kept l.world ≡ g.W.World.kept l.fn.world;
-      later : g.W.World.faults l.fn.world ≤ g.W.World.faults l.world;
+      stays : g.W.World.faults l.world ≡ g.W.World.faults l.fn.world;
       below : l.handled ≤ l.limit;
     }
 

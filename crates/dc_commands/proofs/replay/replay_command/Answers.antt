@@ -1,10 +1,11 @@
-use Rattle.std.proofs.Common.{◌++◌, [], length, subst, Err}
+use Rattle.std.proofs.Common.{◌++◌, [], length, subst, Err, ap, ◌∙◌}
 use Rattle.dc_model.specs.Draws.{draws_of}
 use Rattle.dc_script.specs.Heads.{head_at, HeadStands}
 use Rattle.dc_script.specs.Head.{head_of}
 use Rattle.dc_script.specs.Script.{pieces_of}
 use Rattle.dc_play.specs.Playing.{run_of, limit_of}
 use Rattle.dc_core.specs.Running.{core_machine}
+use Rattle.dc_commands.specs.Replay.{status_of}
 use Rattle.dc_commands.proofs.MachineRuns.{run_from}
 use Rattle.dc_commands.proofs.Promised.{other_keeps, nothing_whole, behind_keeps}
 use Rattle.dc_commands.proofs.replay.replay_command.Goals as goal
@@ -36,3 +37,10 @@ returns-clause-told g c =
             c.play.result c.from.result (run_from core script.config script.seed c.in-Ok-core_of.ensures) head.2 (told.1.3 tail follows) c.from.ensures,
       ),
     )
+
+pub returns-clause-read_stays : goal.returns-clause-read_stays
+returns-clause-read_stays g c = λ read write.
+    c.play.ensures.read_stays (λ e. read (c.from.ensures ∙ ap status_of e)) (λ e. write (c.from.ensures ∙ ap status_of e)) ∙ c.in-Ok-read_head.ensures.stays (λ e. cc)
+
+pub returns-clause-write_stays : goal.returns-clause-write_stays
+returns-clause-write_stays g c = λ write. c.play.ensures.write_stays (λ e. write (c.from.ensures ∙ ap status_of e))

@@ -1,4 +1,4 @@
-use Rattle.std.proofs.Common.{refl, ap, arith}
+use Rattle.std.proofs.Common.{refl, ap, ◌∙◌, arith}
 use Rattle.std.proofs.lemmas.Grind.{common_steps}
 use Rattle.dc_event.specs.declared.answers.Taken.TheVariants.{Bytes}
 use Rattle.dc_commands.proofs.SeedLemmas.{further, cut_short, whole}
@@ -8,7 +8,7 @@ pub loop-count-preserved : goal.loop-count-preserved
 loop-count-preserved g c =
     let told = c.in-Bytes.ensures in (
       further g.S.Source.took g.met.S.Source.took_both _ _ _ _ c.take.new.into c.loop-count.count c.in-Bytes.more c.loop-count.invariant.0 c.take.auto.into told.bound told.took,
-      omega (arith, c.loop-count.invariant.1, c.take.ensures.later),
+      c.in-Bytes.ensures.stays ∙ c.loop-count.invariant.1,
     )
 
 pub returns-in-Bytes-eq0-clause-took : goal.returns-in-Bytes-eq0-clause-took

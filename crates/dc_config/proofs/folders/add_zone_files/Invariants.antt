@@ -1,4 +1,4 @@
-use Rattle.std.proofs.Common.{◌≡◌, ◌≤◌, length, Some}
+use Rattle.std.proofs.Common.{◌≡◌, length, Some}
 use Rattle.std.specs.Vec.Iter.{into_iter_items, into_iter_len}
 use Rattle.dc_config.specs.Tree.{Tree}
 use Rattle.dc_config.specs.Folders.{with_zone_files}
@@ -8,7 +8,7 @@ abbrev pub invariant-loop-file : goal.invariant-loop-file
 invariant-loop-file g l = record {
   zones : (t : Tree) → g.F.Files.tree l.fn.files ≡ Some t → with_zone_files t (into_iter_items l.rest) l.zones ≡ with_zone_files t l.fn.names.items l.fn.zones;
   same : g.F.Files.tree l.files ≡ g.F.Files.tree l.fn.files;
-  later : g.F.Files.faults l.fn.files ≤ g.F.Files.faults l.files;
+  stays : g.F.Files.faults l.files ≡ g.F.Files.faults l.fn.files;
   count : length (into_iter_items l.rest) ≡ into_iter_len l.rest;
 }
 

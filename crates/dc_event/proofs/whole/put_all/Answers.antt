@@ -1,4 +1,4 @@
-use Rattle.std.proofs.Common.{◌≡◌, ℕ, ◌-◌, List, take, drop, length, sym, arith, length-drop}
+use Rattle.std.proofs.Common.{◌≡◌, ℕ, ◌-◌, List, take, drop, length, sym, ◌∙◌, arith, length-drop}
 use Rattle.std.proofs.Math.Seq.{take-add}
 use Rattle.std.proofs.lemmas.List.{append-nil, take-append-drop}
 use Rattle.std.proofs.lemmas.Grind.{common_steps}
@@ -16,7 +16,7 @@ bytes-preserved g c =
     record {
       gained = rw (take-add c.bytes.at c.in-Taken.count c.args.bytes.now) (g.met.K.Sink.gained_both _ _ _ _ _ c.bytes.invariant.gained took);
       within = omega (arith, bound);
-      later = omega (arith, c.bytes.invariant.later, c.in-Taken.ensures.later);
+      stays = c.in-Taken.ensures.stays ∙ c.bytes.invariant.stays;
     }
 
 pub returns-in-Failed-clause-whole : goal.returns-in-Failed-clause-whole

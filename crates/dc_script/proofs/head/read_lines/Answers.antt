@@ -1,4 +1,4 @@
-use Rattle.std.proofs.Common.{◌++◌, arith}
+use Rattle.std.proofs.Common.{◌++◌, ◌∙◌}
 use Rattle.dc_script.specs.Heads.{head_in}
 use Rattle.dc_script.proofs.HeadLemmas.{far_more, far_whole, far_bad}
 use Rattle.dc_script.proofs.head.read_lines.Goals as goal
@@ -8,7 +8,7 @@ loop-preserved g c =
     let far = c.loop.invariant.0 in
     let next = c.in-Going.ensures.reads in (
       (far.0 ++ next.0, far_more g.S.Source.took g.met.S.Source.took_both _ _ _ _ _ _ _ _ _ _ far.0 next.0 far.1 next.1 next.2.0 next.2.1 next.2.2),
-      omega (arith, c.loop.invariant.1, c.read_line.ensures.later),
+      c.read_line.ensures.stays (λ e. cc) ∙ c.loop.invariant.1,
     )
 
 pub returns-in-Begun-clause-head : goal.returns-in-Begun-clause-head

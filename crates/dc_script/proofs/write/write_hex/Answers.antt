@@ -1,4 +1,4 @@
-use Rattle.std.proofs.Common.{arith, ◌+◌, take, drop, ◌≤◌, length, sym, true, false}
+use Rattle.std.proofs.Common.{refl, ◌∙◌, arith, ◌+◌, take, drop, ◌≤◌, length, sym, true, false}
 use Rattle.std.proofs.lemmas.List.{append-nil}
 use Rattle.dc_model.specs.Line.{hex}
 use Rattle.dc_script.proofs.Hex.{hex-append}
@@ -9,7 +9,7 @@ pub loop-at-init : goal.loop-at-init
 loop-at-init g c = record {
   passed = passed_kept g.K.Sink.gained g.met.K.Sink.gained_none g.met.K.Sink.gained_both c.args.sink.now c.args.text.now.items _ _ (sym (append-nil c.args.text.now.items));
   within = omega arith;
-  later = omega arith;
+  stays = refl;
 }
 
 pub loop-at-preserved : goal.loop-at-preserved
@@ -19,7 +19,7 @@ loop-at-preserved g c =
     record {
       passed = rw (← piece_more c.args.bytes.now c.loop-at.at c.min-count.result, hex-append) (passed_both g.K.Sink.gained g.met.K.Sink.gained_none g.met.K.Sink.gained_both true _ _ _ c.args.text.now.items (hex (take c.loop-at.at c.args.bytes.now)) _ _ _ c.loop-at.invariant.passed whole);
       within = omega arith;
-      later = omega (arith, c.loop-at.invariant.later, c.write_digits.ensures.later);
+      stays = c.write_digits.ensures.stays c.if-not-write_digits.false ∙ c.loop-at.invariant.stays;
     }
 
 pub returns-then-not-write_digits-clause-put : goal.returns-then-not-write_digits-clause-put

@@ -1,4 +1,4 @@
-use Rattle.dc_event.specs.declared.events.Kind.TheVariants.{Tick, Request, ConnUp, ConnBytes, ConnDown}
+use Rattle.dc_engine.specs.declared.events.Kind.TheVariants.{Tick, Request, ConnUp, ConnBytes, ConnDown}
 use Rattle.dc_machine.specs.Machine.{step_by}
 use Rattle.dc_clients.proofs.StepLemmas.{stepped, stepped_link}
 use Rattle.dc_clients.proofs.clients.Clients.step.Goals as goal

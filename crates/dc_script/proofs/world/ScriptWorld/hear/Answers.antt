@@ -1,5 +1,5 @@
 use Rattle.dc_script.specs.Read.{unread}
-use Rattle.dc_script.specs.World.{SaysNoMore}
+use Rattle.dc_script.specs.World.{SaysNoMore, IfFailed-less}
 use Rattle.dc_script.proofs.StateLemmas.{stopped_now}
 use Rattle.dc_script.proofs.world.ScriptWorld.hear.Goals as goal
 
@@ -8,3 +8,6 @@ returns-clause-stopped g c =
     let now = c.hear.new.self in
     rw (← c.self.view_is) (λ e f. stopped_now c.hear.result now.failed c.self.inside.reader.failed
     (SaysNoMore (unread now.ended now.found now.rest.line now.rest.rest)) c.hear.ensures.stopped e f)
+
+pub returns-clause-calm : goal.returns-clause-calm
+returns-clause-calm g c = rw (← c.self.view_is) (IfFailed-less c.hear.result _ _ c.hear.ensures.stopped)

@@ -1,5 +1,8 @@
-use Rattle.dc_script.specs.World.{Wrote-same}
+use Rattle.dc_script.specs.World.{Passed-listen}
 use Rattle.dc_script.proofs.world.ScriptWorldWorld.listen.Goals as goal
 
-pub returns-clause-done : goal.returns-clause-done
-returns-clause-done g c = rw (← c.self.view_is) (Wrote-same g.K.Sink.gained g.met.K.Sink.gained_none g.met.K.Sink.gained_both _ _ _ _ _ _ _ _ _)
+pub returns-clause-history : goal.returns-clause-history
+returns-clause-history g c =
+    let source = g.met.S.Source in
+    let sink = g.met.K.Sink in
+    rw (← c.self.view_is) (Passed-listen g.S.Source.took source.took_none source.took_both g.K.Sink.gained sink.gained_none sink.gained_both _ c.args.addr c.args.send_from)

@@ -1,9 +1,12 @@
-use Rattle.dc_script.specs.World.{Wrote-next, next_same, next_stopped}
+use Rattle.dc_script.specs.World.{Passed-next, next_same, next_stopped}
 use Rattle.dc_script.proofs.world.ScriptWorldWorld.next.Goals as goal
 
-pub returns-clause-done : goal.returns-clause-done
-returns-clause-done g c =
-    Wrote-next g.K.Sink.gained g.met.K.Sink.gained_none g.met.K.Sink.gained_both _ _ _ _ _ c.hear-answer.ensures.same c.note.ensures.note
+pub returns-clause-history : goal.returns-clause-history
+returns-clause-history g c =
+    let source = g.met.S.Source in
+    let sink = g.met.K.Sink in
+    Passed-next g.S.Source.took source.took_none source.took_both g.K.Sink.gained sink.gained_none sink.gained_both c.args.self.now c.hear-answer.new.self c.note.new.self
+    c.args.wake c.hear-answer.result c.hear-answer.new.inbox c.hear-answer.ensures.heard c.hear-answer.ensures.same c.note.ensures.note c.hear-answer.ensures.calm
 
 pub returns-clause-same : goal.returns-clause-same
 returns-clause-same g c = next_same c.args.self.now c.hear-answer.new.self c.note.new.self c.hear-answer.result c.hear-answer.ensures.same c.note.ensures.note

@@ -1,9 +1,9 @@
 -- What an event in an inbox stands for.
 use Rattle.std.specs.Prelude.{ℕ, List}
 use Rattle.dc_model.specs.Event.{Kind, tick, request, datagram, link_up, link_bytes, link_down, bind_refused, conn_up, conn_bytes, conn_down, Event}
-use Rattle.dc_event.specs.declared.events.Kind.{Kind as CodeKind}
-use Rattle.dc_event.specs.declared.events.Kind.TheVariants.{Tick, Request, Datagram, LinkUp, LinkBytes, LinkDown, BindRefused, ConnUp, ConnBytes, ConnDown}
-use Rattle.dc_event.specs.declared.events.Event.{Event as CodeEvent}
+use Rattle.dc_engine.specs.declared.events.Kind.{Kind as CodeKind}
+use Rattle.dc_engine.specs.declared.events.Kind.TheVariants.{Tick, Request, Datagram, LinkUp, LinkBytes, LinkDown, BindRefused, ConnUp, ConnBytes, ConnDown}
+use Rattle.dc_engine.specs.declared.events.Event.{Event as CodeEvent}
 
 -- The kind that a `Kind` names.
 abbrev pub kind_of : CodeKind → Kind

@@ -1,7 +1,7 @@
 //! What handles the events.
 ghost use Rattle.std.specs.Prelude.{◌≡◌, ℕ, ◌+◌, ◌<◌, ◌^◌, List};
 ghost use Rattle.dc_model.specs.Event.{Event};
-ghost use Rattle.dc_event.specs.Automaton.{Automaton};
+ghost use Rattle.dc_engine.specs.Automaton.{Automaton};
 
 use crate::{Effects, Inbox};
 

@@ -1,7 +1,7 @@
 //! The place of one event with its bytes.
 ghost use Rattle.std.specs.Prelude.{◌≡◌, ℕ, [], ◌∷◌, ◌^◌, ◌<◌, ◌≤◌, length, take, IfOk};
 ghost use Rattle.dc_model.specs.Event.{IsEvent, tick};
-ghost use Rattle.dc_event.specs.View.{kind_of, event_of};
+ghost use Rattle.dc_engine.specs.View.{kind_of, event_of};
 
 use crate::{Event, Kind};
 use std::alloc::{AllocError, Global};
@@ -29,7 +29,7 @@ pub struct Inbox {
 impl Model for Inbox {
     ghost use Rattle.std.specs.Prelude.{◌≡◌, ◌^◌, ◌<◌, ◌≤◌, take, length};
     ghost use Rattle.dc_model.specs.Event.{Event as ModelEvent, IsEvent};
-    ghost use Rattle.dc_event.specs.View.{event_of};
+    ghost use Rattle.dc_engine.specs.View.{event_of};
 
     ghost Value = { ModelEvent };
 
