@@ -35,6 +35,12 @@ count_put put.Failed before = counted before
 
 -- Whether the call went well.
 
+abbrev pub well_heard : Heard → Bool
+well_heard heard.Event = true
+well_heard heard.End = true
+well_heard heard.Failed = false
+well_heard (heard.Bad line) = true
+
 abbrev pub well_taken : Taken → Bool
 well_taken (taken.Bytes n) = true
 well_taken taken.Failed = false
