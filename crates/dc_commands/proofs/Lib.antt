@@ -1,3 +1,4 @@
+pub mod FareLemmas
 pub mod MachineRuns
 pub mod Promised
 pub mod SeedLemmas

@@ -1,3 +1,5 @@
 pub mod Command
+pub mod Alone
+pub mod Faults
 pub mod Replay
 pub mod Serving

@@ -13,6 +13,11 @@ abbrev pub count_by : {T E : Type 0} → Result T E → ℕ → ℕ
 count_by (Ok value) before = before
 count_by (Err error) before = counted before
 
+-- The same, by whether it went well.
+abbrev pub count_where : Bool → ℕ → ℕ
+count_where true before = before
+count_where false before = counted before
+
 -- Between two states calls went well and gained a list, and then one call failed, which was the last: the count of faults is one higher.
 pub record FailedLast {S A : Type 0} (gained : S → List A → S → Type 0) (refused : S → S → Type 0) (faults : S → ℕ) (old new : S) : Type 0 where
   pub list : List A
