@@ -1,5 +1,5 @@
 -- How objects fared, by the answer of a command.
-use Rattle.std.proofs.Common.{◌≡◌, ℕ, Bool, true, false, List, refl, subst, Option, Some, None}
+use Rattle.std.proofs.Common.{◌≡◌, ℕ, Bool, true, List, refl, subst, Option, Some, None}
 use Rattle.dc_event.specs.Causes.{Fares, count_where}
 use Rattle.dc_event.specs.History.{Exchange}
 use Rattle.dc_rules.specs.declared.config.Config.{Config}
@@ -173,19 +173,6 @@ served_sink history used_up broken old new configured taken left limit status No
 served_sink history used_up broken old new configured taken left limit status (Some core) s =
     let closes = s.3.closes in
     closed_sink status _ limit _ _ closes
-
--- It isn't the answer to unknown words.
-
-refused_usage : (status : Status) (taken : List ℕ) (left : Option (List ℕ)) → Refused status taken left → status ≡ Usage → ⊥
-refused_usage status taken left h e = subst (λ s. Refused s taken left) e h
-
-pub served_usage : {W : Type 0} (history : W → List Exchange → W → Type 0) (used_up : W → Type 0) (broken : W → ℕ → Type 0) (old new : W) (configured : Config → Type 0)
-    (taken : List ℕ) (left : Option (List ℕ)) (limit : ℕ) (status : Status) (core : Option Running)
-    → IsSession history used_up broken old new configured taken left limit status core → status ≡ Usage → ⊥
-served_usage history used_up broken old new configured taken left limit status None s e = refused_usage status taken left s.0 e
-served_usage history used_up broken old new configured taken left limit status (Some core) s e =
-    let closes = s.3.closes in
-    subst (λ t. Closes t _ limit _ _) e closes
 
 -- The same, of another spelling.
 pub fares_as : {S A : Type 0} (gained : S → List A → S → Type 0) (refused : S → S → Type 0) (faults : S → ℕ) (old new : S) (well other : Bool) → well ≡ other

@@ -1,5 +1,5 @@
 -- What the loop tells of the core, said of the machine's run.
-use Rattle.std.proofs.Common.{◌≡◌, ◌≢◌, ℕ, ◌+◌, ◌≤◌, true, false, List, [], ◌∷◌, ◌++◌, length, flat_map, refl, ap, sym, ◌∙◌, arith, subst, Option, Some, None, Result, Ok, Err, ◌↔◌}
+use Rattle.std.proofs.Common.{◌≡◌, ℕ, ◌+◌, true, false, List, [], ◌∷◌, ◌++◌, length, flat_map, refl, ap, sym, ◌∙◌, arith, subst, Option, Some, None, Result, Ok, Err, ◌↔◌}
 use Rattle.dc_model.specs.Draws.{draws_of}
 use Rattle.dc_event.specs.Causes.{counted, count_by}
 use Rattle.std.specs.Result.{is_ok, is_err}
@@ -22,7 +22,7 @@ use Rattle.dc_serve.specs.declared.Served.{Served}
 use Rattle.dc_serve.specs.declared.Served.TheVariants as served
 use Rattle.dc_core.specs.Running.{Running, core_machine}
 use Rattle.dc_commands.specs.Replay.{cache_of}
-use Rattle.dc_commands.specs.Serving.{machine_after, at_event, machine_passes, last_passes, Closes, Serving, IsSession, status_from, refused_by}
+use Rattle.dc_commands.specs.Serving.{machine_after, at_event, machine_passes, last_passes, Closes, Serving, IsSession, Refused, Unserved, status_from, refused_by}
 use Rattle.dc_commands.specs.declared.status.Status.{Status}
 use Rattle.dc_commands.specs.declared.status.Status.TheVariants.{Done, BadVariable, WorldFault}
 
@@ -167,6 +167,15 @@ pub unserved : {W : Type 0} (history : W → List Exchange → W → Type 0) (us
 unserved history used_up broken old new configured c taken left limit status core fault none fits whole passed =
     subst (λ k. IsSession history used_up broken old new configured taken left limit status k) (sym none)
     (subst (λ s. IsSession history used_up broken old new configured taken left limit s None) (sym fault) (whole, (c, fits, passed)))
+
+-- Nothing was served, and the world wasn't asked for anything.
+pub unheard : {W : Type 0} (history : W → List Exchange → W → Type 0) (used_up : W → Type 0) (broken : W → ℕ → Type 0) (old new : W) (configured : Config → Type 0)
+    (taken : List ℕ) (left : Option (List ℕ)) (limit : ℕ) (status known : Status) (core : Option Running)
+    → status ≡ known → core ≡ None → Refused known taken left → Unserved history old new configured known
+    → IsSession history used_up broken old new configured taken left limit status core
+unheard history used_up broken old new configured taken left limit status known core is none why passed =
+    subst (λ k. IsSession history used_up broken old new configured taken left limit status k) (sym none)
+    (subst (λ s. IsSession history used_up broken old new configured taken left limit s None) (sym is) (why, passed))
 
 -- Which variable is bad
 

@@ -68,3 +68,14 @@ pub returns-clause-sink_fares : goal.returns-clause-sink_fares
 returns-clause-sink_fares g c =
     let sink = g.K.Sink in
     fares_as sink.gained sink.refused sink.faults _ _ (writes_well c.play.result) _ (played_sink c.play.result ∙ ap (λ s. sink_well (fault_of s)) (sym c.from.ensures)) c.play.ensures.write
+
+pub returns-in_default-clause-replayed : goal.returns-in_default-clause-replayed
+returns-in_default-clause-replayed g c = record {
+  bytes = [];
+  text = [];
+  taken = g.met.S.Source.took_none c.args.source.now;
+  written = g.met.K.Sink.gained_none c.args.sink.now;
+  keeps = λ tail follows. refl;
+  end = λ e. cc;
+  unwritten = λ e. refl;
+}

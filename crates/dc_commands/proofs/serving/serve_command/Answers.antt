@@ -1,13 +1,12 @@
 use Rattle.std.proofs.Common.{◌≡◌, true, false, [], ◌∷◌, ap, sym, ◌∙◌, subst, rules}
-use Rattle.std.specs.Result.{is_ok, is_err}
-use Rattle.dc_event.specs.Causes.{counted}
+use Rattle.std.specs.Result.{is_ok}
 use Rattle.dc_event.specs.History.{listened}
 use Rattle.dc_play.specs.Playing.{limit_of}
 use Rattle.dc_config.specs.Asked.{well_error}
-use Rattle.dc_serve.specs.Serve.{count_served}
-use Rattle.dc_commands.specs.Faults.{fault_of, files_well, source_well, world_well}
-use Rattle.dc_commands.proofs.FareLemmas.{error_files, error_source, error_world, ended_files, ended_source, ended_world, fares_as}
-use Rattle.dc_commands.proofs.ServingLemmas.{serves, went_well, went_wrong, count_ok, count_err, unserved, refused_variable, no_variable, ended_otherwise}
+use Rattle.dc_commands.specs.declared.status.Status.TheVariants.{SeedShort, ReadFault}
+use Rattle.dc_commands.specs.Faults.{fault_of, files_well}
+use Rattle.dc_commands.proofs.FareLemmas.{error_files, fares_as}
+use Rattle.dc_commands.proofs.ServingLemmas.{serves, went_well, went_wrong, unserved, unheard, refused_variable, no_variable, ended_otherwise}
 use Rattle.dc_commands.proofs.serving.serve_command.Goals as goal
 
 pub returns-in-Err-clause-served : goal.returns-in-Err-clause-served
@@ -21,22 +20,26 @@ returns-in-Err-clause-served g c = record {
 
 pub returns-in-Short-clause-served : goal.returns-in-Short-clause-served
 returns-in-Short-clause-served g c =
+    let w = g.W.World in
     let status = c.refused-in-Short.ensures.status in
     record {
       bytes = c.in-Short.ensures.took.0;
       taken = c.in-Short.ensures.took.1;
-      session = search rules;
+      session = unheard w.history w.used_up w.broken _ _ _ _ _ (limit_of c.args.turns) _ SeedShort _ status c.refused-in-Short.ensures.core c.in-Short.ensures.took.2
+          (g.met.W.World.history_none c.args.world.now);
       conf = search rules;
       variable = no_variable c.in-Ok.config _ _ (λ v e. cc) c.in-Ok.ensures.variable;
     }
 
 pub returns-in-Failed-clause-served : goal.returns-in-Failed-clause-served
 returns-in-Failed-clause-served g c =
+    let w = g.W.World in
     let status = c.refused-in-Failed.ensures.status in
     record {
       bytes = c.in-Failed.ensures.took.0;
       taken = c.in-Failed.ensures.took.1;
-      session = search rules;
+      session = unheard w.history w.used_up w.broken _ _ _ _ _ (limit_of c.args.turns) _ ReadFault _ status c.refused-in-Failed.ensures.core c.in-Failed.ensures.took.2
+          (g.met.W.World.history_none c.args.world.now);
       conf = search rules;
       variable = no_variable c.in-Ok.config _ _ (λ v e. cc) c.in-Ok.ensures.variable;
     }
