@@ -23,11 +23,13 @@ use Rattle.dc_sock.specs.declared.seat.Conn.{Conn}
 use Rattle.dc_sock.specs.declared.seat.Seat.{Seat}
 use Rattle.slab.specs.Slab.{Slab}
 use Rattle.dc_sock.specs.ClientCalls.{HearsRequests, AcceptGives, Accepts, HearsSeat, GoesSeat, Replies, seat_socket}
-use Rattle.dc_sock.specs.Edge.{Edge, QuietCall, Quiet, Looks, Hears, Fails}
+use Rattle.dc_system.specs.declared.answers.Part.{Part}
+use Rattle.dc_system.specs.declared.answers.Part.TheVariants as part
+use Rattle.dc_sock.specs.Edge.{Edge, QuietAccept, QuietRead, QuietCall, Quiet, Looks, Hears, Fails}
 use Rattle.dc_sock.specs.LinkCalls.{udp_calls, close_calls, write_calls, took_all, HearsWay}
 use Rattle.dc_sock.specs.Links.{Goes, LooksAt, link_socket}
 use Rattle.dc_sock.specs.Log.{Gathered, PrintsText, PutsLineIf, LinesIf}
-use Rattle.dc_sock.specs.SeatCalls.{ReadsBehind, LooksAtConn, LooksAtSeat}
+use Rattle.dc_sock.specs.SeatCalls.{PutsConn, PutsSeat, ReadsBehind, LooksAtConn, LooksAtSeat}
 use Rattle.dc_sock.specs.World.{Shown, Makes, Gave, Explained}
 use Rattle.dc_sock.specs.Promises.{sent_by, sent_to, reply_of, GoesOnListening, SendsReplies}
 
@@ -42,62 +44,75 @@ none_both xs ys p q = sent_append xs ys ∙ (ap (λ l. l ++ sent_to ys) p ∙ q)
 none_as : (calls xs : List Call) → calls ≡ xs → sent_to xs ≡ [] → sent_to calls ≡ []
 none_as calls xs e p = ap sent_to e ∙ p
 
-call_silent : (a : Edge) (x : Call) (b : Edge) → QuietCall a x b → (sent_by x ≡ []) × (b.hears ≡ a.hears)
-call_silent a (call.bind s addr port answer) b p = absurd p
-call_silent a (call.connect s addr port answer) b p = absurd p
-call_silent a (call.send s bytes answer) b p = absurd p
-call_silent a (call.send_to s addr port bytes answer) b p = absurd p
-call_silent a (call.receive s answer bytes) b p = (refl, ap (λ (e : Edge). e.hears) p.1)
-call_silent a (call.listen s addr port answer) b p = absurd p
-call_silent a (call.accept l s answer) b p = (refl, ap (λ (e : Edge). e.hears) p.1)
-call_silent a (call.begin s addr port server to answer) b p = absurd p
-call_silent a (call.stands s answer) b p = (refl, ap (λ (e : Edge). e.hears) p.1)
-call_silent a (call.read s answer bytes) b p = (refl, ap (λ (e : Edge). e.hears) p.1)
-call_silent a (call.write s bytes answer) b p = (refl, ap (λ (e : Edge). e.hears) p.3.1.1.1.1)
-call_silent a (call.close s) b p = (refl, ap (λ (e : Edge). e.hears) p.1)
-call_silent a (call.wait pause answer) b p = (refl, ap (λ (e : Edge). e.hears) p)
-call_silent a (call.ready answer) b p = (refl, ap (λ (e : Edge). e.hears) p)
-call_silent a (call.now answer) b p = (refl, ap (λ (e : Edge). e.hears) p)
-call_silent a (call.print bytes answer) b p = (refl, ap (λ (e : Edge). e.hears) p.1)
+accept_hears : (a : Edge) (s : ℕ) (answer : Accepted) (b : Edge) → QuietAccept a s answer b → b.hears ≡ a.hears
+accept_hears a s accepted.Nothing b p = ap (λ (e : Edge). e.hears) p
+accept_hears a s accepted.Aborted b p = ap (λ (e : Edge). e.hears) p
+accept_hears a s accepted.Failed b p = ap (λ (e : Edge). e.hears) p
+accept_hears a s (accepted.Connection peer) b p = ap (λ (e : Edge). e.hears) p.1.1
 
-quiet_silent : (a : Edge) (xs : List Call) (b : Edge) → Quiet a xs b → (sent_to xs ≡ []) × (b.hears ≡ a.hears)
-quiet_silent a [] b q = (refl, ap (λ (e : Edge). e.hears) q)
-quiet_silent a (x ∷ xs) b q =
-    let one = call_silent a x q.0 q.1.0 in
-    let rest = quiet_silent q.0 xs b q.1.1 in
+read_hears : (a : Edge) (s : ℕ) (answer : Part) (b : Edge) → QuietRead a s answer b → b.hears ≡ a.hears
+read_hears a s part.Nothing b p = ap (λ (e : Edge). e.hears) p
+read_hears a s (part.Bytes len) b p = absurd p
+read_hears a s part.End b p = ap (λ (e : Edge). e.hears) p.3.1.1.1.1
+read_hears a s part.Failed b p = absurd p
+
+call_silent : (wake : Option ℕ) (a : Edge) (x : Call) (b : Edge) → QuietCall wake a x b → (sent_by x ≡ []) × (b.hears ≡ a.hears)
+call_silent wake a (call.bind s addr port answer) b p = absurd p
+call_silent wake a (call.connect s addr port answer) b p = absurd p
+call_silent wake a (call.send s bytes answer) b p = absurd p
+call_silent wake a (call.send_to s addr port bytes answer) b p = absurd p
+call_silent wake a (call.receive s answer bytes) b p = (refl, ap (λ (e : Edge). e.hears) p.1)
+call_silent wake a (call.listen s addr port answer) b p = absurd p
+call_silent wake a (call.accept l s answer) b p = (refl, accept_hears a s answer b p)
+call_silent wake a (call.begin s addr port server to answer) b p = absurd p
+call_silent wake a (call.stands s answer) b p = (refl, ap (λ (e : Edge). e.hears) p.1)
+call_silent wake a (call.read s answer bytes) b p = (refl, read_hears a s answer b p)
+call_silent wake a (call.write s bytes answer) b p = (refl, ap (λ (e : Edge). e.hears) p.3.1.1.1.1)
+call_silent wake a (call.close s) b p = (refl, ap (λ (e : Edge). e.hears) p.1)
+call_silent wake a (call.wait pause answer) b p = (refl, ap (λ (e : Edge). e.hears) p.1)
+call_silent wake a (call.ready answer) b p = (refl, ap (λ (e : Edge). e.hears) p)
+call_silent wake a (call.now answer) b p = (refl, ap (λ (e : Edge). e.hears) p)
+call_silent wake a (call.print bytes answer) b p = (refl, ap (λ (e : Edge). e.hears) p.1)
+
+quiet_silent : (wake : Option ℕ) (a : Edge) (xs : List Call) (b : Edge) → Quiet wake a xs b → (sent_to xs ≡ []) × (b.hears ≡ a.hears)
+quiet_silent wake a [] b q = (refl, ap (λ (e : Edge). e.hears) q)
+quiet_silent wake a (x ∷ xs) b q =
+    let one = call_silent wake a x q.0 q.1.0 in
+    let rest = quiet_silent wake q.0 xs b q.1.1 in
     (ap (λ l. l ++ sent_to xs) one.0 ∙ rest.0, rest.1 ∙ one.1)
 
 requests_silent : (hears : Bool) (calls : List Call) (gave : Step) (buffer : List ℕ) → HearsRequests hears calls gave buffer → sent_to calls ≡ []
 requests_silent true calls gave buffer h = ap sent_to h.1.0
 requests_silent false calls gave buffer h = ap sent_to h.0
 
-accept_silent : (answer : Accepted) (old : List Seat) (next : ℕ) (calls : List Call) (gave : Step) (new : List Seat) → AcceptGives answer old next calls gave new → sent_to calls ≡ []
-accept_silent accepted.Nothing old next calls gave new h = ap sent_to h.1.0
-accept_silent accepted.Aborted old next calls gave new h = ap sent_to h.1.0
-accept_silent (accepted.Connection peer) old next calls gave new h = elim h [
+accept_silent : (answer : Accepted) (old : List Seat) (next : ℕ) (clock : Option ℕ) (calls : List Call) (gave : Step) (new : List Seat) (retry : Option ℕ) → AcceptGives answer old next clock calls gave new retry → sent_to calls ≡ []
+accept_silent accepted.Nothing old next clock calls gave new retry h = ap sent_to h.1.0
+accept_silent accepted.Aborted old next clock calls gave new retry h = ap sent_to h.1.0
+accept_silent accepted.Failed old next clock calls gave new retry h = ap sent_to h.1.0
+accept_silent (accepted.Connection peer) old next clock calls gave new retry h = elim h [
   | inl kept ↦ ap sent_to kept.2.1.1.0
-  | inr closed ↦ ap sent_to closed.0
+  | inr closed ↦ ap sent_to closed.1.0
 ]
 
-accepts_silent : (hears : Bool) (old : List Seat) (next : ℕ) (calls : List Call) (gave : Step) (new : List Seat) → Accepts hears old next calls gave new → sent_to calls ≡ []
-accepts_silent true old next calls gave new h = accept_silent h.0 old next calls gave new h.1
-accepts_silent false old next calls gave new h = ap sent_to h.0
+accepts_silent : (hears : Bool) (old : List Seat) (next : ℕ) (clock before : Option ℕ) (calls : List Call) (gave : Step) (new : List Seat) (retry : Option ℕ) → Accepts hears old next clock before calls gave new retry → sent_to calls ≡ []
+accepts_silent true old next clock before calls gave new retry h = accept_silent h.0 old next clock calls gave new retry h.1
+accepts_silent false old next clock before calls gave new retry h = ap sent_to h.0
 
 flushed_silent : (empty : Bool) (socket : ℕ) (bytes : List ℕ) (flush : Option ℕ) → sent_to (if empty then [] else call.write socket bytes flush ∷ []) ≡ []
 flushed_silent true socket bytes flush = refl
 flushed_silent false socket bytes flush = refl
 
-reads_silent : (rest : Option (List ℕ)) (socket : ℕ) (seat : Seat) (flushed calls : List Call) (gave : Step) (buffer : List ℕ) (new : Seat) → sent_to flushed ≡ [] → ReadsBehind socket seat rest flushed calls gave buffer new → sent_to calls ≡ []
-reads_silent None socket seat flushed calls gave buffer new f r = none_as calls flushed r.0 f
-reads_silent (Some rest) socket seat flushed calls gave buffer new f r = ap sent_to r.1.0 ∙ none_both flushed _ f refl
+reads_silent : (rest : Option (List ℕ)) (socket : ℕ) (conn : Conn) (flushed calls : List Call) (gave : Step) (buffer : List ℕ) (new : Seat) → sent_to flushed ≡ [] → ReadsBehind socket conn rest flushed calls gave buffer new → sent_to calls ≡ []
+reads_silent None socket conn flushed calls gave buffer new f r = none_as calls flushed r.0 f
+reads_silent (Some rest) socket conn flushed calls gave buffer new f r = ap sent_to r.1.0 ∙ none_both flushed _ f refl
 
-conn_silent : (failed : Bool) (socket : ℕ) (seat : Seat) (calls : List Call) (gave : Step) (buffer : List ℕ) (new : Seat) → LooksAtConn socket seat failed calls gave buffer new → sent_to calls ≡ []
-conn_silent true socket seat calls gave buffer new l = ap sent_to l.0
-conn_silent false socket seat calls gave buffer new l = reads_silent _ socket seat _ calls gave buffer new (flushed_silent (length seat.backlog == 0) socket seat.backlog l.0) l.1
+conn_silent : (failed : Bool) (socket : ℕ) (conn : Conn) (waiting : List ℕ) (calls : List Call) (gave : Step) (buffer : List ℕ) (new : Seat) → LooksAtConn socket conn waiting failed calls gave buffer new → sent_to calls ≡ []
+conn_silent true socket conn waiting calls gave buffer new l = ap sent_to l.0
+conn_silent false socket conn waiting calls gave buffer new l = reads_silent _ socket conn _ calls gave buffer new (flushed_silent (length waiting == 0) socket waiting l.0) l.1
 
 seat_silent : (conn : Option Conn) (socket : ℕ) (seat : Seat) (calls : List Call) (id : ℕ) (gave : Step) (buffer : List ℕ) (new : Seat) → LooksAtSeat socket seat conn calls id gave buffer new → sent_to calls ≡ []
 seat_silent None socket seat calls id gave buffer new l = ap sent_to l.0
-seat_silent (Some conn) socket seat calls id gave buffer new l = conn_silent conn.failed socket seat calls gave buffer new l.1
+seat_silent (Some conn) socket seat calls id gave buffer new l = conn_silent conn.failed socket conn seat.backlog calls gave buffer new l.1
 
 goes_seat_silent : (gave : Step) (index : ℕ) (after : Seat) (old : List Seat) (calls : List Call) (new : List Seat) → GoesSeat gave index after old calls new → sent_to calls ≡ []
 goes_seat_silent step.Nothing index after old calls new h = ap sent_to h.0
@@ -139,26 +154,26 @@ link_silent key old calls id gave buffer new h = elim h [
 
 looks_silent : (source : Place) (a : Edge) (calls : List Call) (id : ℕ) (gave : Step) (buffer : List ℕ) (b : Edge) → Looks source a calls id gave buffer b → (sent_to calls ≡ []) × (b.hears ≡ a.hears)
 looks_silent place.Datagrams a calls id gave buffer b h = (requests_silent a.hears calls gave buffer h.0, ap (λ (e : Edge). e.hears) h.1.1)
-looks_silent place.Listener a calls id gave buffer b h = (accepts_silent a.hears a.seats a.next_conn calls gave b.seats h.0, ap (λ (e : Edge). e.hears) h.1.1)
+looks_silent place.Listener a calls id gave buffer b h = (accepts_silent a.hears a.seats a.next_conn a.clock a.retry calls gave b.seats b.retry h.0, ap (λ (e : Edge). e.hears) h.1.1)
 looks_silent (place.Seat index) a calls id gave buffer b h = (hears_seat_silent index a.seats calls id gave buffer b.seats h.0, ap (λ (e : Edge). e.hears) h.1)
 looks_silent (place.Link key) a calls id gave buffer b h = (link_silent key a.links calls id gave buffer b.links h.0, ap (λ (e : Edge). e.hears) h.1)
 
 heard_silent : (wake : Option ℕ) (e : ModelEvent) (a : Edge) (calls : List Call) (b : Edge) → Hears wake e a calls b → (sent_to calls ≡ []) × (b.hears ≡ a.hears)
 heard_silent wake e a calls b h =
-    let q = quiet_silent a h.before h.between h.quiet in
+    let q = quiet_silent wake a h.before h.between h.quiet in
     let l : (sent_to h.last ≡ []) × (h.after.hears ≡ h.between.hears) = elim h.heard [
       | inl found ↦ looks_silent found.source h.between h.last found.id found.gave found.buffer h.after found.looks
       | inr tick ↦ (ap sent_to tick.none, ap (λ (x : Edge). x.hears) tick.same)
     ] in
     (ap sent_to h.whole ∙ none_both h.before h.last q.0 l.0, ap (λ (x : Edge). x.hears) h.left ∙ (l.1 ∙ q.1))
 
-fails_silent : (a : Edge) (calls : List Call) (b : Edge) → Fails a calls b → (sent_to calls ≡ []) × (b.hears ≡ a.hears)
-fails_silent a calls b f = let q = quiet_silent a calls f.between f.quiet in (q.0, ap (λ (x : Edge). x.hears) f.left ∙ q.1)
+fails_silent : (wake : Option ℕ) (a : Edge) (calls : List Call) (b : Edge) → Fails wake a calls b → (sent_to calls ≡ []) × (b.hears ≡ a.hears)
+fails_silent wake a calls b f = let q = quiet_silent wake a calls f.between f.quiet in (q.0, ap (λ (x : Edge). x.hears) f.left ∙ q.1)
 
 gave_silent : (wake : Option ℕ) (said : Answer) (a : Edge) (calls : List Call) (b : Edge) → Gave wake said a calls b → (sent_to calls ≡ []) × (b.hears ≡ a.hears)
 gave_silent wake (history.gave e) a calls b g = heard_silent wake e a calls b g
 gave_silent wake history.ended a calls b g = absurd g
-gave_silent wake history.failed a calls b g = fails_silent a calls b g
+gave_silent wake history.failed a calls b g = fails_silent wake a calls b g
 gave_silent wake (history.bad number) a calls b g = absurd g
 
 udp_silent : (o : Opening) (socket : ℕ) (from : List ℕ) (port : ℕ) (server query : List ℕ) → sent_to (udp_calls socket from port server query o) ≡ []
@@ -180,6 +195,14 @@ write_silent (Missing cause) socket bytes said = refl
 put_silent : (empty : Bool) (socket : ℕ) (bytes : List ℕ) (said : Option ℕ) → sent_to (if empty then call.write socket bytes said ∷ [] else []) ≡ []
 put_silent true socket bytes said = refl
 put_silent false socket bytes said = refl
+
+puts_conn_silent : (failed : Bool) (socket : ℕ) (seat : Seat) (conn : Conn) (bytes : List ℕ) (calls : List Call) (new : Seat) → PutsConn failed socket seat conn bytes calls new → sent_to calls ≡ []
+puts_conn_silent true socket seat conn bytes calls new p = ap sent_to p.0
+puts_conn_silent false socket seat conn bytes calls new p = ap sent_to p.1.0 ∙ put_silent (length seat.backlog == 0) socket bytes p.0
+
+puts_seat_silent : (conn : Option Conn) (socket : ℕ) (seat : Seat) (bytes : List ℕ) (calls : List Call) (new : Seat) → PutsSeat conn socket seat bytes calls new → sent_to calls ≡ []
+puts_seat_silent None socket seat bytes calls new p = ap sent_to p.0
+puts_seat_silent (Some conn) socket seat bytes calls new p = puts_conn_silent conn.failed socket seat conn bytes calls new p
 
 print_silent : (text : List ℕ) (old : Gathered) (calls : List Call) (new : Gathered) → PrintsText text old calls new → sent_to calls ≡ []
 print_silent [] old calls new p = ap sent_to p.0
@@ -205,7 +228,7 @@ makes_replies (reply addr port bytes) a calls b h m = (replies_sent addr port by
 makes_replies (conn_reply conn bytes) a calls b h m = (
   elim m.0 [
     | inl none ↦ ap sent_to none.1.0
-    | inr there ↦ ap sent_to there.3.1.0 ∙ put_silent (length there.1.backlog == 0) (seat_socket there.0) bytes there.2
+    | inr there ↦ puts_seat_silent there.1.conn (seat_socket there.0) there.1 bytes calls there.2 there.3.1.0
   ],
   ap (λ (e : Edge). e.hears) m.1,
 )

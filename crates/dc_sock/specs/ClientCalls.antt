@@ -2,7 +2,7 @@
 use Rattle.std.specs.Prelude.{◌≡◌, ◌⊎◌, ℕ, Bool, true, false, List, [], ◌∷◌, ◌++◌, slice_get, slice_set, is_none}
 use Rattle.std.specs.List.{All}
 use Rattle.std.specs.declared.option.Option.{Option}
-use Rattle.std.specs.declared.option.Option.TheVariants.{Some}
+use Rattle.std.specs.declared.option.Option.TheVariants.{None, Some}
 use Rattle.dc_system.specs.Call.{Call, bind, listen, send_to, receive, accept, close, letter_bytes}
 use Rattle.dc_system.specs.declared.answers.Accepted.{Accepted}
 use Rattle.dc_system.specs.declared.answers.Accepted.TheVariants as accepted
@@ -16,7 +16,8 @@ use Rattle.dc_sock.specs.declared.found.Step.TheVariants as step
 use Rattle.dc_sock.specs.declared.place.Place.TheVariants as place
 use Rattle.dc_sock.specs.Place.{token_at}
 use Rattle.dc_sock.specs.declared.seat.Seat.{Seat}
-use Rattle.dc_sock.specs.SeatCalls.{holds_conn, new_seat, free_seat, put_calls, put_rest, after_put, LooksAtSeat}
+use Rattle.dc_sock.specs.Moment.{again_at}
+use Rattle.dc_sock.specs.SeatCalls.{holds_conn, new_seat, free_seat, PutsSeat, LooksAtSeat}
 
 -- The sockets on which clients are heard, that for connections which find no place, and that of the connection at a place.
 abbrev pub datagrams_socket : ℕ
@@ -71,18 +72,28 @@ abbrev pub HearsRequests : (hears : Bool) → List Call → Step → (buffer : L
 HearsRequests true calls gave buffer = (answer : Received) × ((calls ≡ receive 0 answer (letter_bytes answer buffer) ∷ []) × (gave ≡ request_step answer))
 HearsRequests false calls gave buffer = (calls ≡ []) × (gave ≡ step.Nothing)
 
--- A connection that came, from its peer, has a free place and the next number. One that finds no place is closed.
-abbrev pub AcceptGives : Accepted → (old : List Seat) (next : ℕ) → List Call → Step → (new : List Seat) → Type 0
-AcceptGives accepted.Nothing old next calls gave new = (socket : ℕ) × ((calls ≡ accept 1 socket accepted.Nothing ∷ []) × ((gave ≡ step.Nothing) × (new ≡ old)))
-AcceptGives accepted.Aborted old next calls gave new = (socket : ℕ) × ((calls ≡ accept 1 socket accepted.Aborted ∷ []) × ((gave ≡ step.Nothing) × (new ≡ old)))
-AcceptGives (accepted.Connection peer) old next calls gave new =
-    ((index : ℕ) × (seat : Seat) × ((slice_get old index ≡ Some seat) × ((is_none seat.conn ≡ true) × ((calls ≡ accept 1 (seat_socket index) (accepted.Connection peer) ∷ [])
-    × ((gave ≡ step.Event (record { kind = kind.ConnUp; addr = peer.addr; port = peer.port; len = 0 })) × (new ≡ slice_set old index (new_seat next)))))))
-    ⊎ ((calls ≡ accept 1 250 (accepted.Connection peer) ∷ close 250 ∷ []) × ((gave ≡ step.Nothing) × (new ≡ old)))
+-- No place is free.
+abbrev pub NoPlace : List Seat → Type 0
+NoPlace seats = All (λ (seat : Seat). is_none seat.conn ≡ false) seats
 
-abbrev pub Accepts : (hears : Bool) (old : List Seat) (next : ℕ) → List Call → Step → (new : List Seat) → Type 0
-Accepts true old next calls gave new = (answer : Accepted) × AcceptGives answer old next calls gave new
-Accepts false old next calls gave new = (calls ≡ []) × ((gave ≡ step.Nothing) × (new ≡ old))
+-- A connection that came, from its peer, has a free place and the next number. One that finds no place is closed. One that couldn't be taken
+-- is tried again.
+abbrev pub AcceptGives : Accepted → (old : List Seat) (next : ℕ) (clock : Option ℕ) → List Call → Step → (new : List Seat) (retry : Option ℕ) → Type 0
+AcceptGives accepted.Nothing old next clock calls gave new retry =
+    (socket : ℕ) × ((calls ≡ accept 1 socket accepted.Nothing ∷ []) × ((gave ≡ step.Nothing) × ((new ≡ old) × (retry ≡ None))))
+AcceptGives accepted.Aborted old next clock calls gave new retry =
+    (socket : ℕ) × ((calls ≡ accept 1 socket accepted.Aborted ∷ []) × ((gave ≡ step.Nothing) × ((new ≡ old) × (retry ≡ None))))
+AcceptGives accepted.Failed old next clock calls gave new retry =
+    (socket : ℕ) × ((calls ≡ accept 1 socket accepted.Failed ∷ []) × ((gave ≡ step.Nothing) × ((new ≡ old) × (retry ≡ again_at clock))))
+AcceptGives (accepted.Connection peer) old next clock calls gave new retry =
+    ((index : ℕ) × (seat : Seat) × ((slice_get old index ≡ Some seat) × ((is_none seat.conn ≡ true) × ((calls ≡ accept 1 (seat_socket index) (accepted.Connection peer) ∷ [])
+    × ((gave ≡ step.Event (record { kind = kind.ConnUp; addr = peer.addr; port = peer.port; len = 0 })) × ((new ≡ slice_set old index (new_seat next)) × (retry ≡ None)))))))
+    ⊎ (NoPlace old × ((calls ≡ accept 1 250 (accepted.Connection peer) ∷ close 250 ∷ []) × ((gave ≡ step.Nothing) × ((new ≡ old) × (retry ≡ None)))))
+
+-- The listener was looked at.
+abbrev pub Accepts : (hears : Bool) (old : List Seat) (next : ℕ) (clock before : Option ℕ) → List Call → Step → (new : List Seat) (retry : Option ℕ) → Type 0
+Accepts true old next clock before calls gave new retry = (answer : Accepted) × AcceptGives answer old next clock calls gave new retry
+Accepts false old next clock before calls gave new retry = (calls ≡ []) × ((gave ≡ step.Nothing) × ((new ≡ old) × (retry ≡ before)))
 
 -- The connection of this number stands at a place; none has it.
 abbrev pub IsAt : (number index : ℕ) → Seat → List Seat → Type 0
@@ -91,12 +102,12 @@ IsAt number index seat seats = (slice_get seats index ≡ Some seat) × (holds_c
 abbrev pub NoneHas : (number : ℕ) → List Seat → Type 0
 NoneHas number seats = All (λ (seat : Seat). holds_conn number seat.conn ≡ false) seats
 
--- Bytes are written to the connection of this number, if there is one. One is closed.
+-- Bytes are given to the connection of this number, if there is one. One is closed.
 abbrev pub WritesSeat : (number : ℕ) (bytes : List ℕ) (old : List Seat) → List Call → (new : List Seat) → Type 0
 WritesSeat number bytes old calls new =
     (NoneHas number old × ((calls ≡ []) × (new ≡ old)))
-    ⊎ ((index : ℕ) × (seat : Seat) × (answer : Option ℕ) × (IsAt number index seat old × ((calls ≡ put_calls (seat_socket index) seat.backlog bytes answer)
-    × (new ≡ slice_set old index (after_put seat (put_rest seat.backlog bytes answer))))))
+    ⊎ ((index : ℕ) × (seat : Seat) × (after : Seat) × (IsAt number index seat old × (PutsSeat seat.conn (seat_socket index) seat bytes calls after
+    × (new ≡ slice_set old index after))))
 
 abbrev pub ClosesSeat : (number : ℕ) (old : List Seat) → List Call → (new : List Seat) → Type 0
 ClosesSeat number old calls new =

@@ -79,6 +79,7 @@ abbrev pub part_step : (server : List ℕ) → Part → Step
 part_step server part.Nothing = step.Nothing
 part_step server (part.Bytes len) = step.Event (record { kind = kind.LinkBytes; addr = server; port = 53; len = len })
 part_step server part.End = step.Last (plain_found kind.LinkDown)
+part_step server part.Failed = step.Last (plain_found kind.LinkDown)
 
 abbrev pub HearsConnected : (socket : ℕ) (server : List ℕ) → List Call → Step → (buffer : List ℕ) → Type 0
 HearsConnected socket server calls gave buffer =

@@ -1,5 +1,7 @@
 -- The calls that are made for a client's connection.
 use Rattle.std.specs.Prelude.{◌≡◌, ℕ, ◌==◌, nat_le, Bool, true, false, if◌then◌else◌, List, [], ◌∷◌, ◌++◌, length, drop}
+use Rattle.dc_sock.specs.Asked.{none_asked, asked_all, one_answered, is_settled}
+use Rattle.dc_sock.specs.declared.asked.Asked.{Asked}
 use Rattle.std.specs.declared.option.Option.{Option}
 use Rattle.std.specs.declared.option.Option.TheVariants.{None, Some}
 use Rattle.dc_system.specs.Call.{Call, read, write, part_bytes}
@@ -17,17 +19,17 @@ abbrev pub free_seat : Seat
 free_seat = record { conn = None; backlog = [] }
 
 abbrev pub new_seat : ℕ → Seat
-new_seat number = record { conn = Some (record { number = number; failed = false }); backlog = [] }
+new_seat number = record { conn = Some (record { number = number; failed = false; ended = false; asked = none_asked }); backlog = [] }
 
 -- Whether the number of its connection is this.
 abbrev pub holds_conn : ℕ → Option Conn → Bool
 holds_conn number None = false
 holds_conn number (Some conn) = conn.number == number
 
--- A connection that has failed.
-abbrev pub failed_conn : Option Conn → Option Conn
-failed_conn None = None
-failed_conn (Some conn) = Some (record { number = conn.number; failed = true })
+-- A connection for which bytes were taken or wait, which answers one request; and one that neither took them nor let them wait.
+abbrev pub replied_conn : Conn → Bool → Conn
+replied_conn conn true = record conn { asked = one_answered conn.asked }
+replied_conn conn false = record conn { failed = true }
 
 -- At most so many bytes wait.
 abbrev pub fitting : List ℕ → Option (List ℕ)
@@ -52,9 +54,19 @@ abbrev pub put_rest : (waiting bytes : List ℕ) → Option ℕ → Option (List
 put_rest waiting bytes answer = if length waiting == 0 then behind waiting (left_by bytes answer) else fitting (waiting ++ bytes)
 
 -- The place behind that.
-abbrev pub after_put : Seat → Option (List ℕ) → Seat
-after_put seat None = record { conn = failed_conn seat.conn; backlog = seat.backlog }
-after_put seat (Some rest) = record { conn = seat.conn; backlog = rest }
+abbrev pub after_put : Seat → Conn → Option (List ℕ) → Seat
+after_put seat conn None = record { conn = Some (replied_conn conn false); backlog = seat.backlog }
+after_put seat conn (Some rest) = record { conn = Some (replied_conn conn true); backlog = rest }
+
+-- Bytes are given to a connection. One that has failed is given none.
+abbrev pub PutsConn : (failed : Bool) (socket : ℕ) → Seat → Conn → (bytes : List ℕ) → List Call → Seat → Type 0
+PutsConn true socket seat conn bytes calls new = (calls ≡ []) × (new ≡ seat)
+PutsConn false socket seat conn bytes calls new =
+    (answer : Option ℕ) × ((calls ≡ put_calls socket seat.backlog bytes answer) × (new ≡ after_put seat conn (put_rest seat.backlog bytes answer)))
+
+abbrev pub PutsSeat : Option Conn → (socket : ℕ) → Seat → (bytes : List ℕ) → List Call → Seat → Type 0
+PutsSeat None socket seat bytes calls new = (calls ≡ []) × (new ≡ seat)
+PutsSeat (Some conn) socket seat bytes calls new = PutsConn conn.failed socket seat conn bytes calls new
 
 abbrev pub went_well : Option (List ℕ) → Bool
 went_well None = false
@@ -71,24 +83,33 @@ flush_calls socket waiting answer = if length waiting == 0 then [] else write so
 abbrev pub flush_rest : (waiting : List ℕ) → Option ℕ → Option (List ℕ)
 flush_rest waiting answer = if length waiting == 0 then Some waiting else left_by waiting answer
 
--- What a stream of a client gives.
-abbrev pub conn_step : Part → Step
-conn_step part.Nothing = step.Nothing
-conn_step (part.Bytes len) = step.Event (record { kind = kind.ConnBytes; addr = 0 ∷ 0 ∷ 0 ∷ 0 ∷ []; port = 0; len = len })
-conn_step part.End = step.Last (plain_found kind.ConnDown)
+-- What a stream of a client gives. Its end is told where every whole request was answered and nothing waits; a failure is told at once.
+abbrev pub conn_step : Asked → (waiting : List ℕ) → Part → Step
+conn_step asked waiting part.Nothing = step.Nothing
+conn_step asked waiting (part.Bytes len) = step.Event (record { kind = kind.ConnBytes; addr = 0 ∷ 0 ∷ 0 ∷ 0 ∷ []; port = 0; len = len })
+conn_step asked waiting part.End = if is_settled asked waiting then step.Last (plain_found kind.ConnDown) else step.Nothing
+conn_step asked waiting part.Failed = step.Last (plain_found kind.ConnDown)
+
+-- The connection behind that.
+abbrev pub conn_after : Conn → Part → (bytes : List ℕ) → Conn
+conn_after conn part.Nothing bytes = conn
+conn_after conn (part.Bytes len) bytes = record conn { asked = asked_all conn.asked bytes }
+conn_after conn part.End bytes = record conn { ended = true }
+conn_after conn part.Failed bytes = conn
 
 -- Behind a flush the stream is read; where the flush failed the connection ends.
-abbrev pub ReadsBehind : (socket : ℕ) → Seat → Option (List ℕ) → (flushed calls : List Call) → Step → (buffer : List ℕ) → Seat → Type 0
-ReadsBehind socket seat None flushed calls gave buffer new = (calls ≡ flushed) × (gave ≡ step.Last (plain_found kind.ConnDown))
-ReadsBehind socket seat (Some rest) flushed calls gave buffer new =
-    (answer : Part) × ((calls ≡ flushed ++ read socket answer (part_bytes answer buffer) ∷ []) × ((gave ≡ conn_step answer) × (new ≡ record { conn = seat.conn; backlog = rest })))
+abbrev pub ReadsBehind : (socket : ℕ) → Conn → Option (List ℕ) → (flushed calls : List Call) → Step → (buffer : List ℕ) → Seat → Type 0
+ReadsBehind socket conn None flushed calls gave buffer new = (calls ≡ flushed) × (gave ≡ step.Last (plain_found kind.ConnDown))
+ReadsBehind socket conn (Some rest) flushed calls gave buffer new =
+    (answer : Part) × ((calls ≡ flushed ++ read socket answer (part_bytes answer buffer) ∷ [])
+    × ((gave ≡ conn_step conn.asked rest answer) × (new ≡ record { conn = Some (conn_after conn answer (part_bytes answer buffer)); backlog = rest })))
 
 -- A connection is looked at: a failed one ends; else what waits is written, and the stream is read.
-abbrev pub LooksAtConn : (socket : ℕ) → Seat → (failed : Bool) → List Call → Step → (buffer : List ℕ) → Seat → Type 0
-LooksAtConn socket seat true calls gave buffer new = (calls ≡ []) × (gave ≡ step.Last (plain_found kind.ConnDown))
-LooksAtConn socket seat false calls gave buffer new =
-    (answer : Option ℕ) × ReadsBehind socket seat (flush_rest seat.backlog answer) (flush_calls socket seat.backlog answer) calls gave buffer new
+abbrev pub LooksAtConn : (socket : ℕ) → Conn → (waiting : List ℕ) → (failed : Bool) → List Call → Step → (buffer : List ℕ) → Seat → Type 0
+LooksAtConn socket conn waiting true calls gave buffer new = (calls ≡ []) × (gave ≡ step.Last (plain_found kind.ConnDown))
+LooksAtConn socket conn waiting false calls gave buffer new =
+    (answer : Option ℕ) × ReadsBehind socket conn (flush_rest waiting answer) (flush_calls socket waiting answer) calls gave buffer new
 
 abbrev pub LooksAtSeat : (socket : ℕ) → Seat → Option Conn → List Call → (id : ℕ) → Step → (buffer : List ℕ) → Seat → Type 0
 LooksAtSeat socket seat None calls id gave buffer new = (calls ≡ []) × ((gave ≡ step.Nothing) × (new ≡ seat))
-LooksAtSeat socket seat (Some conn) calls id gave buffer new = (id ≡ conn.number) × LooksAtConn socket seat conn.failed calls gave buffer new
+LooksAtSeat socket seat (Some conn) calls id gave buffer new = (id ≡ conn.number) × LooksAtConn socket conn seat.backlog conn.failed calls gave buffer new

@@ -1,5 +1,5 @@
 -- What contracts see of a world of sockets, and how the calls of its system explain what it exchanged with an engine.
-use Rattle.std.specs.Prelude.{◌≡◌, ℕ, Bool, false, if◌then◌else◌, List, [], ◌∷◌, ◌++◌, refl}
+use Rattle.std.specs.Prelude.{◌≡◌, ℕ, Bool, false, if◌then◌else◌, List, [], ◌∷◌, ◌++◌, replicate, refl}
 use Rattle.std.proofs.Common.{◌∙◌, sym, ap, subst}
 use Rattle.std.specs.declared.option.Option.{Option}
 use Rattle.std.specs.declared.option.Option.TheVariants.{None}
@@ -14,6 +14,7 @@ use Rattle.dc_sock.specs.Edge.{Edge, Hears, Fails}
 use Rattle.dc_sock.specs.Links.{OpensUdp, OpensTcp, WritesLink, ClosesLink}
 use Rattle.slab.specs.Slab.{get}
 use Rattle.dc_sock.specs.Log.{Lines}
+use Rattle.dc_sock.specs.SeatCalls.{free_seat}
 use Rattle.dc_sock.specs.Numbers.{Numbers}
 use Rattle.dc_sock.specs.declared.sockets.Turn.{Turn}
 use Rattle.dc_sock.specs.declared.sockets.Turn.TheVariants as turn
@@ -25,15 +26,19 @@ pub record Shown (S : Type 0) : Type 0 where
   pub port : ℕ
   pub edge : Edge
 
--- A world at first.
+-- A world at first: nobody is heard, no connection and no link stands, and nothing was gathered for the log.
 pub record IsFresh {S : Type 0} (over : S) (at : ℕ) (w : Shown S) : Type 0 where
   pub system : w.system ≡ over
   pub faults : w.faults ≡ 0
   pub port : w.port ≡ at
-  pub log : w.edge.log.failed ≡ false
-  pub next_conn : w.edge.next_conn ≡ 1
   pub hears : w.edge.hears ≡ false
+  pub retry : w.edge.retry ≡ None
+  pub from : w.edge.from ≡ 0 ∷ 0 ∷ 0 ∷ 0 ∷ []
   pub links : (key : ℕ) → get w.edge.links key ≡ None
+  pub next_conn : w.edge.next_conn ≡ 1
+  pub seats : w.edge.seats ≡ replicate 24 free_seat
+  pub log : w.edge.log ≡ record { text = []; failed = false }
+  pub clock : w.edge.clock ≡ None
 
 -- The sockets on which clients are heard were made, at an address and port, and links are opened from another address.
 abbrev pub ListensAll : (addr : List ℕ) (port : ℕ) (send_from : List ℕ) (ok : Bool) → Edge → List Call → Edge → Type 0
@@ -55,7 +60,7 @@ Makes (line text) a calls b = Lines text a.log calls b.log × (b ≡ record a { 
 abbrev pub Gave : (wake : Option ℕ) → Answer → Edge → List Call → Edge → Type 0
 Gave wake (gave e) a calls b = Hears wake e a calls b
 Gave wake ended a calls b = ⊥
-Gave wake failed a calls b = Fails a calls b
+Gave wake failed a calls b = Fails wake a calls b
 Gave wake (bad number) a calls b = ⊥
 
 -- The count of faults behind it.
