@@ -6,6 +6,7 @@ use Rattle.std.specs.declared.option.Option.TheVariants.{None}
 use Rattle.dc_model.specs.Event.{Action, Event as ModelEvent, IsEvent, reply, conn_reply, conn_close, udp, tcp, link_write, link_close, line}
 use Rattle.dc_event.specs.declared.answers.Heard.{Heard}
 use Rattle.dc_event.specs.declared.answers.Heard.TheVariants as heard
+use Rattle.dc_event.specs.Answers.{count_heard}
 use Rattle.dc_event.specs.Causes.{counted}
 use Rattle.dc_event.specs.History.{Answer, gave, ended, failed, bad, Exchange, listened, asked, gathered, did, answer_by, done_all}
 use Rattle.dc_system.specs.Call.{Call}
@@ -69,13 +70,6 @@ faults_with (gave e) faults = faults
 faults_with ended faults = faults
 faults_with failed faults = counted faults
 faults_with (bad number) faults = faults
-
--- The same of an answer of `next`.
-abbrev pub faults_behind : Heard → ℕ → ℕ
-faults_behind heard.Event faults = faults
-faults_behind heard.End faults = faults
-faults_behind heard.Failed faults = counted faults
-faults_behind (heard.Bad number) faults = faults
 
 -- These calls explain this exchange. No event is gathered unasked.
 abbrev pub Explains : {S : Type 0} → Exchange → Shown S → List Call → Shown S → Type 0
@@ -154,14 +148,14 @@ deaf_from {S} called a now addr send_from system edge faults calls e p l f =
     explained_from called a now (record a { system = system; edge = edge; faults = faults }) (listened addr send_from false) calls e p
     (l, ap (λ (n : ℕ). record a { system = system; edge = edge; faults = n }) f)
 
-faults_same : (said : Heard) (e : ModelEvent) (faults : ℕ) → faults_behind said faults ≡ faults_with (answer_by said e) faults
+faults_same : (said : Heard) (e : ModelEvent) (faults : ℕ) → count_heard said faults ≡ faults_with (answer_by said e) faults
 faults_same heard.Event e faults = refl
 faults_same heard.End e faults = refl
 faults_same heard.Failed e faults = refl
 faults_same (heard.Bad number) e faults = refl
 
 -- An answer of `next`, which is counted behind the calls.
-pub asked_from : {S : Type 0} (called : S → List Call → S → Type 0) (a now b : Shown S) (wake : Option ℕ) (said : Heard) (e : ModelEvent) (system : S) (edge : Edge) (calls : List Call) → a ≡ now → called a.system calls system → Gave wake (answer_by said e) a.edge calls edge → b ≡ record a { system = system; edge = edge; faults = faults_behind said a.faults } → Explained called now (asked wake (answer_by said e) ∷ []) b
+pub asked_from : {S : Type 0} (called : S → List Call → S → Type 0) (a now b : Shown S) (wake : Option ℕ) (said : Heard) (e : ModelEvent) (system : S) (edge : Edge) (calls : List Call) → a ≡ now → called a.system calls system → Gave wake (answer_by said e) a.edge calls edge → b ≡ record a { system = system; edge = edge; faults = count_heard said a.faults } → Explained called now (asked wake (answer_by said e) ∷ []) b
 asked_from {S} called a now b wake said e system edge calls same p given noted =
     subst (λ (w : Shown S). Explained called now (asked wake (answer_by said e) ∷ []) w) (sym (noted ∙ ap (λ (n : ℕ). record a { system = system; edge = edge; faults = n }) (faults_same said e a.faults)))
     (explained_from called a now (record a { system = system; edge = edge; faults = faults_with (answer_by said e) a.faults }) (asked wake (answer_by said e)) calls same p (given, refl))

@@ -1,12 +1,12 @@
 //! The world of sockets.
 ghost use Rattle.std.specs.Prelude.{◌≡◌, ◌≤◌, List, [], ◌∷◌, IfOk, None, true, false, refl, is_ok, if◌then◌else◌};
 ghost use Rattle.dc_model.specs.Event.{IsEvent};
-ghost use Rattle.dc_event.specs.Answers.{IfHeard, Warrants};
-ghost use Rattle.dc_event.specs.Causes.{Rose, counted, HasCause};
+ghost use Rattle.dc_event.specs.Answers.{count_heard, Warrants};
+ghost use Rattle.dc_event.specs.Causes.{counted, count_by};
 ghost use Rattle.dc_event.specs.History.{listened, asked, answer_by};
 ghost use Rattle.dc_system.specs.Call.{Call};
 ghost use Rattle.dc_sock.specs.Edge.{edge_of};
-ghost use Rattle.dc_sock.specs.World.{Shown, IsFresh, Explained, Explained-both, ActedBy, ActedBy-both, ActedBy-faults, Gives, Gave, faults_behind, AnswerNumbers};
+ghost use Rattle.dc_sock.specs.World.{Shown, IsFresh, Explained, Explained-both, ActedBy, ActedBy-both, ActedBy-faults, Gives, Gave, AnswerNumbers};
 
 use crate::clients::reply;
 use crate::sockets::{Sockets, Turn};
@@ -111,8 +111,7 @@ fn hear<R: Wait, S: System>(
 impl<R, S: System> SocketWorld<R, S> {
     /// Counts an answer where it is a fault.
     fn note(&mut self, answer: Heard)
-        ensures later { self.old.faults ≤ self.new.faults }
-        ensures note { self.new ≡ record self.old { faults = faults_behind answer self.old.faults } }
+        ensures note { self.new ≡ record self.old { faults = count_heard answer self.old.faults } }
     {
         if let Heard::Failed = answer {
             self.faults = self.faults.saturating_add(1);
@@ -122,7 +121,6 @@ impl<R, S: System> SocketWorld<R, S> {
     /// Listens for clients, and answers whether that went well.
     fn begin(&mut self, addr: [u8; 4], send_from: [u8; 4]) -> bool
         ensures listened { Explained S.called self.old (listened addr send_from result ∷ []) self.new }
-        ensures later { self.old.faults ≤ self.new.faults }
         ensures faults { self.new.faults ≡ (if result then self.old.faults else counted self.old.faults) }
     {
         if !self
@@ -141,8 +139,7 @@ impl<R, S: System> SocketWorld<R, S> {
         R: Wait,
         ensures bounds { Gives result inbox.new }
         ensures told { Explained S.called self.old (asked wake (answer_by result inbox.new) ∷ []) self.new }
-        ensures later { self.old.faults ≤ self.new.faults }
-        ensures faults { self.new.faults ≡ faults_behind result self.old.faults }
+        ensures faults { self.new.faults ≡ count_heard result self.old.faults }
         ensures log { self.old.edge.log.failed ≡ true → result ≡ Heard.Failed }
         ensures numbers { AnswerNumbers result inbox.new self.old.edge.next_conn self.new.edge.next_conn }
     {
@@ -227,8 +224,7 @@ impl<R: Wait, S: System> World for SocketWorld<R, S> {
 
     fn listen(&mut self, addr: [u8; 4], send_from: [u8; 4]) -> Result<(), WorldFailed>
         ensures history { Explained S.called self.old (listened addr send_from (is_ok result) ∷ []) self.new }
-        ensures cause { HasCause self.old.faults self.new.faults result }
-        ensures faults { self.new.faults ≡ (if is_ok result then self.old.faults else counted self.old.faults) }
+        ensures count { self.new.faults ≡ count_by result self.old.faults }
     {
         if self.begin(addr, send_from) {
             Ok(())
@@ -239,10 +235,8 @@ impl<R: Wait, S: System> World for SocketWorld<R, S> {
 
     fn next(&mut self, wake: Option<u64>, inbox: &mut Inbox) -> Heard
         ensures history { Explained S.called self.old (asked wake (answer_by result inbox.new) ∷ []) self.new }
-        ensures later { self.old.faults ≤ self.new.faults }
-        ensures stays { IfHeard result (self.new.faults ≡ self.old.faults) }
-        ensures warrant { Warrants result inbox.new ⊥ (λ number. ⊥) self.old.faults self.new.faults }
-        ensures faults { self.new.faults ≡ faults_behind result self.old.faults }
+        ensures count { self.new.faults ≡ count_heard result self.old.faults }
+        ensures warrant { Warrants result inbox.new ⊥ (λ number. ⊥) }
         ensures log { self.old.edge.log.failed ≡ true → result ≡ Heard.Failed }
         ensures numbers { AnswerNumbers result inbox.new self.old.edge.next_conn self.new.edge.next_conn }
     {
