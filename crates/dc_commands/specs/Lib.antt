@@ -1,3 +1,4 @@
 pub mod Command
 pub mod Replay
 pub mod Serving
+pub mod Trusting
