@@ -4,3 +4,4 @@ pub mod Promised
 pub mod SeedLemmas
 pub mod ServingLemmas
 pub mod Complete
+pub mod Trusted
