@@ -1,0 +1,4 @@
+pub mod Asking
+pub mod Coming
+pub mod Replies
+pub mod Servers
