@@ -1,6 +1,6 @@
 -- Entries of the code as events that wait.
 use Rattle.std.specs.Prelude.{ℕ, Bool, true, false, List, []}
-use Rattle.dc_model.specs.Event.{Event, Kind, datagram, link_up, link_bytes}
+use Rattle.dc_model.specs.Event.{Event, datagram, link_up, link_bytes}
 use Rattle.dc_model.specs.Message.{framed}
 use Rattle.dc_model.specs.Places.{no_address}
 use Rattle.dc_simulation.specs.Tree.{answer_bytes, content_of}

@@ -1,5 +1,5 @@
 -- The replies of the code as those of the tree.
-use Rattle.std.specs.Prelude.{ℕ, ◌+◌, Bool, if◌then◌else◌, List, [], ◌∷◌, ◌++◌}
+use Rattle.std.specs.Prelude.{ℕ, Bool, if◌then◌else◌, List, [], ◌∷◌, ◌++◌}
 use Rattle.dc_model.specs.Name.{wire}
 use Rattle.dc_model.specs.Message.{kind_a, kind_ns, kind_cname}
 use Rattle.dc_simulation.specs.Tree.{Content, record_bytes, response_flags, authority_flags, cut, answers, missing, all_bytes}

@@ -1,6 +1,6 @@
 //! Events that wait.
 ghost use Rattle.std.specs.Prelude.{◌≡◌, ◌<◌, ◌^◌, [], option_map};
-ghost use Rattle.dc_model.specs.Event.{link_up};
+ghost use Rattle.dc_model.specs.Event.{IsEvent, link_up};
 ghost use Rattle.dc_model.specs.Places.{no_address};
 ghost use Rattle.dc_simulation.specs.Tree as tree;
 ghost use Rattle.dc_simulation.specs.World.{link_event};
@@ -74,7 +74,8 @@ fn give_answer(
 )
     requires moment { now < 2 ^ 62 }
     requires placed { IsPlaced server }
-    ensures { inbox.new ≡ answer_event now link addr server over_tcp asked.now }
+    ensures event { inbox.new ≡ answer_event now link addr server over_tcp asked.now }
+    ensures bounds { IsEvent inbox.new }
 {
     let reply = server.reply(over_tcp, &asked.question.name);
     let answer = asked.answer(&reply);
@@ -124,7 +125,8 @@ impl Entry {
     /// Puts it into the inbox, at this moment.
     pub(crate) fn give(&self, now: u64, inbox: &mut Inbox)
         requires { now < 2 ^ 62 }
-        ensures { inbox.new ≡ record self.now { now = now } }
+        ensures event { inbox.new ≡ record self.now { now = now } }
+        ensures bounds { IsEvent inbox.new }
     {
         match &self.coming {
             Coming::Up => inbox.set(event(now, Kind::LinkUp, self.link, [0; 4], 0, 0), &[]),

@@ -4,6 +4,11 @@
 mod answer;
 mod bytes;
 mod entry;
+mod links;
 mod names;
 mod reply;
+mod request;
 mod server;
+mod world;
+
+pub use world::SimWorld;

@@ -1,6 +1,5 @@
-use Rattle.std.proofs.Common.{ap, ◌++◌, ◌∙◌}
 use Rattle.dc_sim.specs.Asking.{question_by}
-use Rattle.dc_sim.specs.Replies.{content_by, records_of}
+use Rattle.dc_sim.specs.Replies.{content_by}
 use Rattle.dc_sim.proofs.ReplyLemmas.{answer_written}
 use Rattle.dc_sim.proofs.answer.Asked.answer.Goals as goal
 
