@@ -1,5 +1,5 @@
 //! The simulated world.
-ghost use Rattle.std.specs.Prelude.{◌≡◌, ℕ, ◌+◌, ◌*◌, ◌%◌, ◌^◌, ◌<◌, ◌≤◌, min, max, drop, [], ◌∷◌, refl, Some, IfOk};
+ghost use Rattle.std.specs.Prelude.{◌≡◌, ℕ, ◌+◌, ◌*◌, ◌%◌, ◌^◌, ◌<◌, ◌≤◌, min, max, drop, [], ◌∷◌, refl, Some, option_map, IfOk};
 ghost use Rattle.dc_model.specs.Event.{IsEvent};
 ghost use Rattle.dc_simulation.specs.World as model;
 ghost use Rattle.dc_simulation.specs.Tree.{answer_to};
@@ -8,7 +8,6 @@ ghost use Rattle.dc_event.specs.History.{asked, answer_by};
 ghost use Rattle.dc_sim.specs.Coming.{back_event};
 ghost use Rattle.dc_sim.specs.Steps.{IsRequest, IsTick};
 ghost use Rattle.dc_sim.specs.Passing.{Acts, Acts-none, Acts-both, Passed, Passed-none, Passed-both, Passed-acts, Says};
-ghost use Rattle.std.specs.Prelude.{option_map};
 
 use crate::entry::Entry;
 use crate::links::{Connected, newest};
@@ -70,6 +69,13 @@ impl SimWorld {
             queue: HeapCircularBuffer::with_capacity(alloc, PLACES)?,
             ring: HeapCircularBuffer::with_capacity(alloc, PLACES)?,
         })
+    }
+
+    /// How many events were given.
+    pub fn given(&self) -> u64
+        ensures { result ≡ self.now.given }
+    {
+        self.given
     }
 
     /// An event will come, if the queue has a place.
