@@ -1,5 +1,5 @@
 -- How objects fared, by the answer of a command.
-use Rattle.std.proofs.Common.{◌≡◌, ℕ, Bool, true, List, refl, subst, Option, Some, None}
+use Rattle.std.proofs.Common.{◌≡◌, ℕ, Bool, true, List, refl, sym, subst, Option, Some, None}
 use Rattle.dc_event.specs.Causes.{Fares, count_where}
 use Rattle.dc_event.specs.History.{Exchange}
 use Rattle.dc_rules.specs.declared.config.Config.{Config}
@@ -13,10 +13,15 @@ use Rattle.dc_play.specs.Playing.{reads_well, writes_well}
 use Rattle.dc_play.specs.declared.played.Played.{Played}
 use Rattle.dc_play.specs.declared.played.Played.TheVariants as played
 use Rattle.dc_core.specs.Running.{Running}
+use Rattle.dc_simulate.specs.Told.{Wrote, writes_well as writes_well_simulated}
+use Rattle.dc_simulate.specs.declared.command.Simulated.{Simulated}
+use Rattle.dc_simulate.specs.declared.command.Simulated.TheVariants as simulated
 use Rattle.dc_commands.specs.declared.status.Status.{Status}
 use Rattle.dc_commands.specs.declared.status.Status.TheVariants.{Done, Spent, Usage, BadVariable, NoRoot, BadZone, BadPermit, FilesFault, SeedShort, ReadFault, WriteFault, BadScript, WorldFault, NoMemory}
 use Rattle.dc_commands.specs.Faults.{fault_of, files_well, source_well, sink_well, world_well}
 use Rattle.dc_commands.specs.Replay.{Outcome, Keeps, status_of}
+use Rattle.dc_commands.specs.Simulating as simulating
+use Rattle.dc_commands.specs.Simulating.{Simulates}
 use Rattle.dc_commands.specs.Serving.{IsSession, Closes, Refused, status_from, refused_by}
 
 -- Playing a script
@@ -48,6 +53,41 @@ played_in_memory played.Spent P e = cc
 played_in_memory (played.Bad k) P e = cc
 played_in_memory played.ReadFault P e = cc
 played_in_memory played.WriteFault P e = cc
+
+-- A simulation
+
+pub simulated_sink : (r : Simulated) → writes_well_simulated r ≡ sink_well (fault_of (simulating.status_of r))
+simulated_sink simulated.Done = refl
+simulated_sink simulated.WriteFault = refl
+simulated_sink simulated.NoMemory = refl
+
+pub simulated_files : (r : Simulated) → files_well (fault_of (simulating.status_of r)) ≡ true
+simulated_files simulated.Done = refl
+simulated_files simulated.WriteFault = refl
+simulated_files simulated.NoMemory = refl
+
+pub simulated_source : (r : Simulated) → source_well (fault_of (simulating.status_of r)) ≡ true
+simulated_source simulated.Done = refl
+simulated_source simulated.WriteFault = refl
+simulated_source simulated.NoMemory = refl
+
+pub simulated_world : (r : Simulated) → world_well (fault_of (simulating.status_of r)) ≡ true
+simulated_world simulated.Done = refl
+simulated_world simulated.WriteFault = refl
+simulated_world simulated.NoMemory = refl
+
+pub simulated_usage : (r : Simulated) → simulating.status_of r ≡ Usage → ⊥
+simulated_usage simulated.Done e = cc
+simulated_usage simulated.WriteFault e = cc
+simulated_usage simulated.NoMemory e = cc
+
+pub simulates : {K : Type 0} (gained : K → List ℕ → K → Type 0) (r : Simulated) (status : Status) (old new : K) (text : List ℕ) → status ≡ simulating.status_of r
+    → Wrote gained r old text new → Simulates gained status old text new
+simulates gained r status old new text e w = subst (λ s. Simulates gained s old text new) (sym e) (as_status r w) where
+  as_status : (r : Simulated) → Wrote gained r old text new → Simulates gained (simulating.status_of r) old text new
+  as_status simulated.Done w = w
+  as_status simulated.WriteFault w = w
+  as_status simulated.NoMemory w = w
 
 -- What a replay keeps of files and world.
 

@@ -1,6 +1,7 @@
 pub mod Command
 pub mod Alone
 pub mod Faults
+pub mod Simulating
 pub mod Replay
 pub mod Serving
 pub mod Trusting

@@ -1,20 +1,23 @@
 //! The top call: what the words of a command ask for is done.
-ghost use Rattle.std.specs.Prelude.{◌≡◌, ◌↔◌};
+ghost use Rattle.std.specs.Prelude.{◌≡◌, ◌↔◌, ℕ};
 ghost use Rattle.std.specs.declared.option.Option.{Option};
 ghost use Rattle.dc_event.specs.Causes.{Fares, count_where};
 ghost use Rattle.dc_core.specs.Running.{Running};
 ghost use Rattle.dc_play.specs.Playing.{limit_of};
+ghost use Rattle.dc_simulate.specs.Told.{summary_of};
 ghost use Rattle.dc_commands.specs.Command.{command_of};
 ghost use Rattle.dc_commands.specs.Alone.{Alone};
 ghost use Rattle.dc_commands.specs.Faults.{fault_of, files_well, source_well, sink_well, world_well};
 ghost use Rattle.dc_commands.specs.Replay.{Replayed};
 ghost use Rattle.dc_commands.specs.Serving.{Served};
+ghost use Rattle.dc_commands.specs.Simulating.{Simulates};
 
 use crate::replay::replay_command;
 use crate::serving::serve_command;
 use crate::status::Status;
 use dc_config::{Env, Files};
 use dc_event::{Sink, Source, World};
+use dc_simulate::{Simulation, simulate_command};
 use std::alloc::Global;
 
 /// What the words of a command and the environment ask for.
@@ -24,6 +27,8 @@ pub enum Command {
     Serve,
     /// To replay a script.
     Replay,
+    /// To run the resolver in the simulated world of a number, for so many events.
+    Simulate { seed: u64, events: u64 },
     /// Nothing that is known.
     Unknown,
 }
@@ -37,13 +42,19 @@ impl Command {
         match words.len() {
             0 => Command::Serve,
             1 if words[0].as_bytes() == b"replay".as_slice() => Command::Replay,
-            _ => Command::Unknown,
+            _ => match Simulation::of(words) {
+                Some(asked) => Command::Simulate {
+                    seed: asked.seed,
+                    events: asked.events,
+                },
+                None => Command::Unknown,
+            },
         }
     }
 }
 
-/// Does what the words behind the program's name ask for: with no word it serves, and with `replay` it replays a script. At most `turns`
-/// events are handled, and never more than 2^60.
+/// Does what the words behind the program's name ask for: with no word it serves, with `replay` it replays a script, and with `simulate`
+/// and two numbers it runs in a simulated world. At most `turns` events are handled while serving and replaying, and never more than 2^60.
 pub fn dnscache<F: Files, S: Source, K: Sink, W: World>(
     alloc: Global,
     words: &[String],
@@ -67,11 +78,15 @@ pub fn dnscache<F: Files, S: Source, K: Sink, W: World>(
     ensures world_fares { W.faults world.new ≡ count_where (world_well (fault_of result)) (W.faults world.old) }
     ensures served { command_of words.now env.now ≡ Command.Serve → (core : Option Running)
         × Served S.took S.left W.history W.used_up W.broken env.now (F.tree files.old) source.old source.new world.old world.new (limit_of turns) result core }
+    ensures simulated { (seed events : ℕ) → command_of words.now env.now ≡ Command.Simulate seed events → Simulates K.gained result sink.old (summary_of seed events) sink.new }
     ensures replayed { command_of words.now env.now ≡ Command.Replay → Replayed S.took S.left K.gained source.old source.new sink.old sink.new (limit_of turns) result }
 {
     match Command::of(words, env) {
         Command::Serve => serve_command(alloc, env, files, source, world, turns).status,
         Command::Replay => replay_command(alloc, source, sink, turns),
+        Command::Simulate { seed, events } => {
+            Status::from(simulate_command(alloc, seed, events, sink))
+        }
         Command::Unknown => Status::Usage,
     }
 }

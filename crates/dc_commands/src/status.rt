@@ -2,11 +2,12 @@
 
 use dc_config::{ConfigError, FileName, Variable};
 use dc_play::Played;
+use dc_simulate::Simulated;
 
 /// How a command ended.
 #[derive(Debug, Drop, PartialEq, Eq)]
 pub enum Status {
-    /// While serving, the world's events are used up. In `replay`, the script was played to its end.
+    /// While serving, the world's events are used up. In `replay`, the script was played to its end; in `simulate`, the summary was written.
     Done,
     /// As many events were handled as the call was given turns.
     Spent,
@@ -49,6 +50,21 @@ impl From<Played> for Status {
             Played::Bad { line } => Status::BadScript(line),
             Played::ReadFault => Status::ReadFault,
             Played::WriteFault => Status::WriteFault,
+        }
+    }
+}
+
+impl From<Simulated> for Status {
+    ghost use Rattle.std.specs.Prelude.{◌≡◌};
+    ghost use Rattle.dc_commands.specs.Simulating.{status_of};
+
+    ghost from_gives = { λ r s. s ≡ status_of r };
+
+    fn from(simulated: Simulated) -> Status {
+        match simulated {
+            Simulated::Done => Status::Done,
+            Simulated::WriteFault => Status::WriteFault,
+            Simulated::NoMemory => Status::NoMemory,
         }
     }
 }

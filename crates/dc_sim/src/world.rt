@@ -3,7 +3,7 @@ ghost use Rattle.std.specs.Prelude.{◌≡◌, ℕ, ◌+◌, ◌*◌, ◌%◌, �
 ghost use Rattle.dc_model.specs.Event.{IsEvent};
 ghost use Rattle.dc_simulation.specs.World as model;
 ghost use Rattle.dc_simulation.specs.Tree.{answer_to};
-ghost use Rattle.dc_event.specs.Answers.{IfHeard, Warrants};
+ghost use Rattle.dc_event.specs.Answers.{count_heard, Warrants};
 ghost use Rattle.dc_event.specs.History.{asked, answer_by};
 ghost use Rattle.dc_sim.specs.Coming.{back_event};
 ghost use Rattle.dc_sim.specs.Steps.{IsRequest, IsTick};
@@ -232,9 +232,8 @@ impl World for SimWorld {
 
     fn next(&mut self, wake: Option<u64>, inbox: &mut Inbox) -> Heard
         ensures history { Passed self.old (asked wake (answer_by result inbox.new) ∷ []) self.new }
-        ensures later { 0 ≤ 0 }
-        ensures stays { IfHeard result (◌≡◌ {A = ℕ} 0 0) }
-        ensures warrant { Warrants result inbox.new (self.new.given ≡ self.new.events) (λ _. ⊥) 0 0 }
+        ensures count { 0 ≡ count_heard result 0 }
+        ensures warrant { Warrants result inbox.new (self.new.given ≡ self.new.events) (λ _. ⊥) }
         ensures given { Says (answer_by result inbox.new) (model.next wake self.old) self.old self.new }
     {
         if self.given == self.events {

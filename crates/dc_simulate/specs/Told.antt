@@ -1,5 +1,5 @@
 -- What is told of a simulation.
-use Rattle.std.specs.Prelude.{◌≡◌, ℕ, ◌^◌, min, List}
+use Rattle.std.specs.Prelude.{◌≡◌, ℕ, ◌^◌, min, Bool, true, false, List}
 use Rattle.dc_event.specs.Told.{GainedFront}
 use Rattle.dc_core.specs.Running.{Running}
 use Rattle.dc_simulation.specs.World.{World}
@@ -20,3 +20,9 @@ abbrev pub Wrote : {K : Type 0} → (K → List ℕ → K → Type 0) → Simula
 Wrote gained Done old text new = gained old text new
 Wrote gained WriteFault old text new = GainedFront gained old text new
 Wrote gained NoMemory old text new = new ≡ old
+
+-- Whether the output went well.
+abbrev pub writes_well : Simulated → Bool
+writes_well Done = true
+writes_well WriteFault = false
+writes_well NoMemory = true

@@ -1,7 +1,7 @@
 //! The command: a simulation's summary is written.
-ghost use Rattle.std.specs.Prelude.{◌≡◌, ◌≢◌, IfOk};
-ghost use Rattle.dc_event.specs.Causes.{Rose};
-ghost use Rattle.dc_simulate.specs.Told.{Wrote, loop_of, summary_of};
+ghost use Rattle.std.specs.Prelude.{◌≡◌, IfOk};
+ghost use Rattle.dc_event.specs.Causes.{Fares};
+ghost use Rattle.dc_simulate.specs.Told.{Wrote, loop_of, summary_of, writes_well};
 
 use crate::made::{core, seed as seed_of};
 use crate::run::run;
@@ -39,8 +39,7 @@ fn told(alloc: Global, seed: u64, events: u64) -> Result<Text, AllocError>
 /// how many events there were, what the resolver counted, and how many bytes were put into its cache.
 pub fn simulate_command<K: Sink>(alloc: Global, seed: u64, events: u64, sink: &mut K) -> Simulated
     ensures told { Wrote K.gained result sink.old (summary_of seed events) sink.new }
-    ensures write { result ≡ Simulated.WriteFault → Rose (K.faults sink.old) (K.faults sink.new) }
-    ensures write_stays { result ≢ Simulated.WriteFault → K.faults sink.new ≡ K.faults sink.old }
+    ensures fares { Fares K.gained K.refused K.faults (writes_well result) sink.old sink.new }
 {
     match told(alloc, seed, events) {
         Err(_) => Simulated::NoMemory,
