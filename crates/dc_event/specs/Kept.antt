@@ -1,7 +1,7 @@
 -- A world in memory: what it gives, and the history that it keeps.
-use Rattle.std.specs.Prelude.{◌≡◌, ℕ, ◌^◌, ◌<◌, ◌≤◌, ◌⊎◌, Bool, true, false, List, [], ◌∷◌, ◌++◌, length, map, nat_lt, ◌&&◌, if◌then◌else◌, refl}
-use Rattle.std.proofs.Common.{sym, ◌∙◌, ap, subst, inl, inr}
-use Rattle.std.proofs.lemmas.List.{map-append, length-map}
+use Rattle.std.specs.Prelude.{◌≡◌, ℕ, ◌^◌, ◌<◌, ◌≤◌, ◌⊎◌, Bool, true, false, List, [], ◌∷◌, ◌++◌, length, nat_lt, if◌then◌else◌, refl}
+use Rattle.std.proofs.Common.{sym, ◌∙◌, ap, subst}
+use Rattle.std.proofs.lemmas.List.{map-append}
 use Rattle.std.specs.declared.option.Option.{Option}
 use Rattle.std.specs.declared.option.Option.TheVariants.{None, Some}
 use Rattle.dc_model.specs.Event.{Event, Action, reply, conn_reply, conn_close, udp, tcp, link_write, link_close, line}
@@ -106,22 +106,6 @@ pub record Acted (old : Kept) (xs : List Action) (new : Kept) : Type 0 where
   pub grows : Grows old.history (done_all xs) new.history
   pub same : new ≡ record old { history = new.history }
 
--- One exchange that was kept.
-pub Grows-kept : (room : ℕ) (old : Option (List Exchange)) (x : Exchange) → Grows old (x ∷ []) (kept_more room old x)
-Grows-kept room None x = tt
-Grows-kept room (Some h) x = grows-where (nat_lt (length h) room)
-  where
-    grows-where : (b : Bool) → Grows (Some h) (x ∷ []) (if b then Some (h ++ x ∷ []) else None)
-    grows-where true = refl
-    grows-where false = tt
-
--- A list of exchanges with one more where that fits.
-pub kept-as : (told fits : Bool) (room : ℕ) (before after : List Passed) (x : Passed) → fits ≡ nat_lt (length before) room → (fits ≡ true → after ≡ before ++ x ∷ [])
-    → (if told && fits then Some (map exchange_of after) else None) ≡ kept_more room (if told then Some (map exchange_of before) else None) (exchange_of x)
-kept-as false fits room before after x is more = refl
-kept-as true false room before after x is more = rw (length-map before exchange_of, ← is) refl
-kept-as true true room before after x is more = rw (length-map before exchange_of, ← is, more refl) (ap (λ l. Some l) (map-append exchange_of before (x ∷ [])))
-
 pub Acted-none : (a : Kept) → Acted a [] a
 Acted-none a = record { grows = Grows-none a.history; same = refl }
 
@@ -130,8 +114,3 @@ Acted-both a b c xs ys p q = record {
   grows = subst (λ h. Grows a.history h c.history) (sym (map-append did xs ys)) (Grows-both a.history b.history c.history (done_all xs) (done_all ys) p.grows q.grows);
   same = q.same ∙ ap (λ (w : Kept). record w { history = c.history }) p.same;
 }
-
--- One action that was kept, or that is no longer told.
-pub Acted-one : (a b : Kept) (x : Action) (h : Option (List Exchange)) → b ≡ record a { history = h } → KeepsOrStops a.room a.history (did x) h → Acted a (x ∷ []) b
-Acted-one a b x h same (inl kept) = record { grows = rw (same, kept) (Grows-kept a.room a.history (did x)); same = rw same refl }
-Acted-one a b x h same (inr stops) = record { grows = rw (same, stops) tt; same = rw same refl }
