@@ -16,7 +16,7 @@ pub trait Engine {
     /// The state that an engine stands for.
     ghost state: { Self → State };
 
-    /// Comes once, before the first event.
+    /// Comes once in each call of `serve`, before that call's first event.
     fn launch<O: Effects>(&mut self, out: &mut O)
         ensures acted { O.acted out.old (machine.opening (state self.old)) out.new }
         ensures state { state self.new ≡ state self.old };

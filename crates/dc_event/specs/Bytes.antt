@@ -1,7 +1,7 @@
 -- Bytes that are taken from a front, and bytes that are put behind others.
-use Rattle.std.specs.Prelude.{◌≡◌, ℕ, List, [], ◌++◌, refl}
+use Rattle.std.specs.Prelude.{◌≡◌, ℕ, List, [], ◌++◌, IsSome, refl}
 use Rattle.std.proofs.Common.{sym, ◌∙◌, ap, append_assoc}
-use Rattle.std.proofs.lemmas.List.{append-nil}
+use Rattle.std.proofs.lemmas.List.{append-nil, append_cancel_left}
 use Rattle.std.specs.declared.option.Option.{Option}
 use Rattle.std.specs.declared.option.Option.TheVariants.{None, Some}
 use Rattle.dc_event.specs.Told.{Grows}
@@ -34,3 +34,9 @@ Grows-both a b None xs ys p q = tt
 Grows-both a None (Some z) xs ys p q = absurd q
 Grows-both None (Some y) (Some z) xs ys p q = absurd p
 Grows-both (Some x) (Some y) (Some z) xs ys p q = q ∙ ap (λ l. l ++ ys) p ∙ append_assoc x xs ys
+
+-- What is told fixes what it grew by.
+pub Grows-tells : {A : Type 0} (old new : Option (List A)) (xs ys : List A) → IsSome new → Grows old xs new → Grows old ys new → xs ≡ ys
+Grows-tells old None xs ys h p q = cc
+Grows-tells None (Some new) xs ys h p q = absurd p
+Grows-tells (Some old) (Some new) xs ys h p q = append_cancel_left old xs ys (sym p ∙ q)

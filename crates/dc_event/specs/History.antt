@@ -1,12 +1,13 @@
 -- What passes between a world and its user, in the order in which it passes.
 use Rattle.std.specs.Prelude.{◌≡◌, ℕ, Bool, true, false, List, [], ◌∷◌, ◌++◌, map, flat_map, refl}
-use Rattle.std.proofs.Common.{◌∙◌, ap}
+use Rattle.std.proofs.Common.{ap}
 use Rattle.std.proofs.lemmas.Grind.{flat_map-append}
 use Rattle.std.specs.declared.option.Option.{Option}
 use Rattle.std.specs.declared.option.Option.TheVariants.{Some}
 use Rattle.dc_model.specs.Event.{Event, Action}
 use Rattle.dc_event.specs.declared.answers.Heard.{Heard}
 use Rattle.dc_event.specs.declared.answers.Heard.TheVariants as heard
+use Rattle.dc_event.specs.Answers.{heard_by}
 
 -- What the world said when it was asked for an event: this one, or none.
 pub data Answer : Type 0 where
@@ -113,6 +114,20 @@ kept_in before (x ∷ h) = kept_in (kept_with before x) h
 -- The history of actions alone.
 abbrev pub done_all : List Action → List Exchange
 done_all xs = map did xs
+
+-- What one call of `next` adds to the events and to the answers.
+
+pub events_asked : (wake : Option ℕ) (a : Heard) (e : Event) → heard_by a e ≡ events_in (asked wake (answer_by a e) ∷ [])
+events_asked wake heard.Event e = refl
+events_asked wake heard.End e = refl
+events_asked wake heard.Failed e = refl
+events_asked wake (heard.Bad line) e = refl
+
+pub answered_by : (a : Heard) (e : Event) → a ≡ heard_of (answer_by a e)
+answered_by heard.Event e = refl
+answered_by heard.End e = refl
+answered_by heard.Failed e = refl
+answered_by (heard.Bad line) e = refl
 
 -- Laws: of two histories one behind the other, and of actions alone.
 

@@ -3,6 +3,7 @@ pub mod Causes
 pub mod Answers
 pub mod History
 pub mod Bytes
+pub mod Kept
 pub mod Known
 pub mod Quiet
 pub mod Scripted

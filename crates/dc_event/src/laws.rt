@@ -1,11 +1,14 @@
 //! What is told, as laws, and which of this crate's types may move to another thread.
 ghost use Rattle.std.specs.Prelude.{◌≡◌, ℕ, List, IsSome};
 ghost use Rattle.dc_event.specs.Bytes.{Tape};
+ghost use Rattle.dc_event.specs.Kept.{Kept};
 ghost use Rattle.dc_event.specs.Quiet.{Quiet};
 ghost use Rattle.dc_event.specs.Scripted.{Reel, Shelf};
 ghost use Rattle.dc_event.specs.Told.{Tells};
 
-use crate::{Inbox, MemorySink, MemorySource, QuietSink, QuietSource, Sink, Source};
+use crate::{
+    Inbox, MemorySink, MemorySource, MemoryWorld, QuietSink, QuietSource, Sink, Source, World,
+};
 
 /// A quiet source tells what is taken.
 pub fn quiet_source_tells()
@@ -27,6 +30,11 @@ pub fn memory_sink_tells()
     ensures { (old new : Shelf) → Tells ⟦<MemorySink as Sink>⟧.gained old new }
 {}
 
+/// A world in memory tells what passed, as long as its history is told.
+pub fn memory_world_tells()
+    ensures { (old new : Kept) → IsSome new.history → Tells ⟦<MemoryWorld as World>⟧.history old new }
+{}
+
 fn movable<T: Send>(value: T) -> T
     ensures { result ≡ value }
 {
@@ -38,10 +46,22 @@ pub fn all_movable(
     inbox: Inbox,
     sources: (QuietSource, MemorySource),
     sinks: (QuietSink, MemorySink),
-) -> (Inbox, (QuietSource, MemorySource), (QuietSink, MemorySink))
+    world: MemoryWorld,
+) -> (
+    Inbox,
+    (QuietSource, MemorySource),
+    (QuietSink, MemorySink),
+    MemoryWorld,
+)
     ensures inbox { result.0 ≡ inbox }
     ensures sources { result.1 ≡ sources }
     ensures sinks { result.2 ≡ sinks }
+    ensures world { result.3 ≡ world }
 {
-    (movable(inbox), movable(sources), movable(sinks))
+    (
+        movable(inbox),
+        movable(sources),
+        movable(sinks),
+        movable(world),
+    )
 }

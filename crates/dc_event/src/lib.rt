@@ -7,18 +7,21 @@
 
 pub mod answers;
 pub mod host;
+pub mod kept;
 pub mod laws;
 pub mod lent;
+pub mod memory_world;
 pub mod quiet;
 pub mod scripted;
 pub mod stream;
 pub mod whole;
 pub mod world;
 
-pub use dc_engine::{Effects, Engine, Event, Inbox, Kind};
-
 pub use answers::{Heard, Put, Taken, WorldFailed};
+pub use dc_engine::{Effects, Engine, Event, Inbox, Kind};
 pub use host::{ReaderSource, WriterSink};
+pub use kept::{Action, FullEvent, Given, Passed};
+pub use memory_world::MemoryWorld;
 pub use quiet::{QuietSink, QuietSource};
 pub use scripted::{MemorySink, MemorySource};
 pub use stream::{Sink, Source};

@@ -6,9 +6,8 @@ ghost use Rattle.dc_event.specs.Causes.{count_by};
 ghost use Rattle.dc_event.specs.Answers.{count_heard, IfMore, Warrants};
 ghost use Rattle.dc_event.specs.History.{Exchange, listened, asked, answer_by, gathered_by, done_all};
 
-use dc_engine::{Effects, Inbox};
-
 use crate::{Heard, WorldFailed};
+use dc_engine::{Effects, Inbox};
 
 /// Where events come from and actions go to.
 pub trait World: Effects {

@@ -8,7 +8,7 @@ use Rattle.dc_model.specs.Event.{Event, IsEvent, Action}
 use Rattle.dc_event.specs.declared.answers.Heard.{Heard as Answer}
 use Rattle.dc_event.specs.declared.answers.Heard.TheVariants as answer
 use Rattle.dc_event.specs.Answers.{heard_by, count_heard}
-use Rattle.dc_event.specs.History.{Exchange, listened, asked, answer_by, heard_of, done_all, events_in, actions_in, last_in, kept_in, events-both, actions-both, last-both, kept-both, events-done, actions-done, last-done, kept-done}
+use Rattle.dc_event.specs.History.{Exchange, listened, asked, answer_by, done_all, events_in, actions_in, last_in, kept_in, events-both, actions-both, last-both, kept-both, events-done, actions-done, last-done, kept-done, events_asked, answered_by}
 use Rattle.dc_script.specs.Script.{bad_at, most_line}
 use Rattle.dc_script.specs.Lines.{IsOneLine}
 use Rattle.dc_script.specs.declared.lines.NextLine.{NextLine}
@@ -267,20 +267,6 @@ module _ {S K : Type 0} (took : S → List ℕ → S → Type 0) (none : (a : S)
         stopped = no_change a.read_failed (SaysNoMore a.unread);
         stays = λ failed. (failed, refl);
       })
-
--- What one call of `next` passes.
-
-events_asked : (wake : Option ℕ) (a : Answer) (e : Event) → heard_by a e ≡ events_in (asked wake (answer_by a e) ∷ [])
-events_asked wake answer.Event e = refl
-events_asked wake answer.End e = refl
-events_asked wake answer.Failed e = refl
-events_asked wake (answer.Bad line) e = refl
-
-answered_by : (a : Answer) (e : Event) → a ≡ heard_of (answer_by a e)
-answered_by answer.Event e = refl
-answered_by answer.End e = refl
-answered_by answer.Failed e = refl
-answered_by (answer.Bad line) e = refl
 
 -- Where the world's count is 0 behind an answer, the answer was no fault.
 calm_by : (a : Answer) (before : ℕ) (P : Type 0) → IfFailed a (Unit {0}) P → count_heard a before ≡ 0 → (before ≡ 0) × P

@@ -2,7 +2,7 @@ use Rattle.std.proofs.Common.{◌≡◌, ℕ, ◌-◌, List, take, drop, length,
 use Rattle.std.proofs.Math.Seq.{take-add}
 use Rattle.std.proofs.lemmas.List.{append-nil, take-append-drop}
 use Rattle.std.proofs.lemmas.Grind.{common_steps}
-use Rattle.dc_event.specs.Causes.{failed_now, failed_behind, counted}
+use Rattle.dc_event.specs.Causes.{failed_now, failed_behind}
 use Rattle.dc_event.proofs.whole.put_all.Goals as goal
 
 -- all that is left of a slice from a place on
