@@ -1,5 +1,5 @@
 -- A run in the words of who runs the service.
-use Rattle.std.specs.Prelude.{◌≡◌, ◌⊎◌, ◌≤◌, ◌+◌, ℕ, Bool, true, false, if◌then◌else◌, List, [], ◌∷◌, ◌++◌, length, ◌==◌, nat_lt, refl}
+use Rattle.std.specs.Prelude.{◌≡◌, ◌⊎◌, ◌≤◌, ◌+◌, ℕ, Bool, true, false, if◌then◌else◌, List, [], ◌∷◌, ◌++◌, length, take, ◌==◌, nat_lt, refl}
 use Rattle.std.proofs.Common.{inl, inr, sym, subst, ◌∙◌, ap, append_assoc, arith}
 use Rattle.std.proofs.lemmas.List.{append-nil}
 use Rattle.std.specs.List.{AllByRecursion}
@@ -182,7 +182,8 @@ accept_comes accepted.Nothing old next clock calls gave new retry moment id foun
 accept_comes accepted.Aborted old next clock calls gave new retry moment id found buffer h f = none_found found gave h.1.1.0 f
 accept_comes accepted.Failed old next clock calls gave new retry moment id found buffer h f = none_found found gave h.1.1.0 f
 accept_comes (accepted.Connection peer) old next clock calls gave new retry moment id found buffer h f = elim h [
-  | inl kept ↦ subst (λ (x : Found). Comes moment id x buffer calls) (found_as _ found gave kept.2.1.1.1.0 f) (still_plain calls (still_as calls _ kept.2.1.1.0 ((tt, refl), tt)), ap printed kept.2.1.1.0)
+  | inl kept ↦ subst (λ (x : Found). Comes moment id x buffer calls) (found_as _ found gave kept.2.1.1.1.0 f)
+      ((kept.0, peer, (kept.2.1.1.0, (refl, refl))), ap printed kept.2.1.1.0)
   | inr closed ↦ none_found found gave closed.1.1.0 f
 ]
 
@@ -199,22 +200,32 @@ end_plainly : (settled : Bool) (gave : Step) (found : Found) → gave ≡ (if se
 end_plainly true gave found g f = subst Plainly (last_as _ found gave g f) (λ m i b c p. (still_plain c p, still_silent c p))
 end_plainly false gave found g f = none_found found gave g f
 
-part_plainly : (answer : Part) (has_asked : Asked) (waiting : List ℕ) (gave : Step) (found : Found) → gave ≡ conn_step has_asked waiting answer → IsFound gave found → Plainly found
-part_plainly part.Nothing has_asked waiting gave found g f = none_found found gave g f
-part_plainly (part.Bytes len) has_asked waiting gave found g f = subst Plainly (found_as _ found gave g f) (λ m i b c p. (still_plain c p, still_silent c p))
-part_plainly part.End has_asked waiting gave found g f = end_plainly (is_settled has_asked waiting) gave found g f
-part_plainly part.Failed has_asked waiting gave found g f = subst Plainly (last_as _ found gave g f) (λ m i b c p. (still_plain c p, still_silent c p))
+-- What a client's stream gave, or what is told of it without a part.
+abbrev bytes_found : ℕ → Found
+bytes_found len = record { kind = kind.ConnBytes; addr = 0 ∷ 0 ∷ 0 ∷ 0 ∷ []; port = 0; len = len }
 
-reads_come : (rest : Option (List ℕ)) (socket : ℕ) (conn : Conn) (flushed calls : List Call) (gave : Step) (buffer : List ℕ) (new : Seat) (found : Found) → AreStill flushed → ReadsBehind socket conn rest flushed calls gave buffer new → IsFound gave found → AreStill calls × Plainly found
-reads_come None socket conn flushed calls gave buffer new found s r f = (still_as calls flushed r.0 s, subst Plainly (last_as _ found gave r.1 f) (λ m i b c p. (still_plain c p, still_silent c p)))
-reads_come (Some rest) socket conn flushed calls gave buffer new found s r f =
-    (still_as calls _ r.1.0 (still_both flushed (call.read socket r.0 (part_bytes r.0 buffer) ∷ []) s ((tt, refl), tt)), part_plainly r.0 conn.asked rest gave found r.1.1.0 f)
+abbrev SeatGives : (socket : ℕ) (gave : Step) → Found → (buffer : List ℕ) → List Call → Type 0
+SeatGives socket gave found buffer heard =
+    (AreStill heard × Plainly found)
+    ⊎ ((flushed : List Call) × (len : ℕ) × (AreStill flushed × ((heard ≡ flushed ++ call.read socket (part.Bytes len) (take len buffer) ∷ []) × (gave ≡ step.Event (bytes_found len)))))
 
-conn_comes : (failed : Bool) (socket : ℕ) (conn : Conn) (waiting : List ℕ) (calls : List Call) (gave : Step) (buffer : List ℕ) (new : Seat) (found : Found) → LooksAtConn socket conn waiting failed calls gave buffer new → IsFound gave found → AreStill calls × Plainly found
-conn_comes true socket conn waiting calls gave buffer new found l f = (still_as calls [] l.0 tt, subst Plainly (last_as _ found gave l.1 f) (λ m i b c p. (still_plain c p, still_silent c p)))
+part_gives : (answer : Part) (has_asked : Asked) (waiting : List ℕ) (socket : ℕ) (flushed heard : List Call) (gave : Step) (found : Found) (buffer : List ℕ) → AreStill flushed → heard ≡ flushed ++ call.read socket answer (part_bytes answer buffer) ∷ [] → gave ≡ conn_step has_asked waiting answer → IsFound gave found → SeatGives socket gave found buffer heard
+part_gives part.Nothing has_asked waiting socket flushed heard gave found buffer s h g f = none_found found gave g f
+part_gives (part.Bytes len) has_asked waiting socket flushed heard gave found buffer s h g f = inr (flushed, len, (s, (h, g)))
+part_gives part.End has_asked waiting socket flushed heard gave found buffer s h g f =
+    inl (still_as heard _ h (still_both flushed (call.read socket part.End [] ∷ []) s ((tt, refl), tt)), end_plainly (is_settled has_asked waiting) gave found g f)
+part_gives part.Failed has_asked waiting socket flushed heard gave found buffer s h g f =
+    inl (still_as heard _ h (still_both flushed (call.read socket part.Failed [] ∷ []) s ((tt, refl), tt)), subst Plainly (last_as _ found gave g f) (λ m i b c p. (still_plain c p, still_silent c p)))
+
+reads_come : (rest : Option (List ℕ)) (socket : ℕ) (conn : Conn) (flushed calls : List Call) (gave : Step) (buffer : List ℕ) (new : Seat) (found : Found) → AreStill flushed → ReadsBehind socket conn rest flushed calls gave buffer new → IsFound gave found → SeatGives socket gave found buffer calls
+reads_come None socket conn flushed calls gave buffer new found s r f = inl (still_as calls flushed r.0 s, subst Plainly (last_as _ found gave r.1 f) (λ m i b c p. (still_plain c p, still_silent c p)))
+reads_come (Some rest) socket conn flushed calls gave buffer new found s r f = part_gives r.0 conn.asked rest socket flushed calls gave found buffer s r.1.0 r.1.1.0 f
+
+conn_comes : (failed : Bool) (socket : ℕ) (conn : Conn) (waiting : List ℕ) (calls : List Call) (gave : Step) (buffer : List ℕ) (new : Seat) (found : Found) → LooksAtConn socket conn waiting failed calls gave buffer new → IsFound gave found → SeatGives socket gave found buffer calls
+conn_comes true socket conn waiting calls gave buffer new found l f = inl (still_as calls [] l.0 tt, subst Plainly (last_as _ found gave l.1 f) (λ m i b c p. (still_plain c p, still_silent c p)))
 conn_comes false socket conn waiting calls gave buffer new found l f = reads_come _ socket conn _ calls gave buffer new found (flushed_still (length waiting == 0) socket waiting l.0) l.1 f
 
-seat_comes : (conn : Option Conn) (socket : ℕ) (seat : Seat) (calls : List Call) (number : ℕ) (gave : Step) (buffer : List ℕ) (new : Seat) (found : Found) → LooksAtSeat socket seat conn calls number gave buffer new → IsFound gave found → AreStill calls × Plainly found
+seat_comes : (conn : Option Conn) (socket : ℕ) (seat : Seat) (calls : List Call) (number : ℕ) (gave : Step) (buffer : List ℕ) (new : Seat) (found : Found) → LooksAtSeat socket seat conn calls number gave buffer new → IsFound gave found → SeatGives socket gave found buffer calls
 seat_comes None socket seat calls number gave buffer new found l f = none_found found gave l.1.0 f
 seat_comes (Some conn) socket seat calls number gave buffer new found l f = conn_comes conn.failed socket conn seat.backlog calls gave buffer new found l.1 f
 
@@ -228,8 +239,16 @@ seats_come index old calls number gave buffer new moment id found h f = elim h [
   | inl none ↦ none_found found gave none.1.0 f
   | inr there ↦
       let l = there.1 in
-      let heard = seat_comes there.0.conn (seat_socket index) there.0 l.heard number gave buffer l.after found l.looks f in
-      heard.1 moment id buffer calls (still_as calls (l.heard ++ l.closed) l.whole (still_both l.heard l.closed heard.0 (goes_seat_still gave index l.after old l.closed new l.goes)))
+      elim (seat_comes there.0.conn (seat_socket index) there.0 l.heard number gave buffer l.after found l.looks f) [
+        | inl plainly ↦ plainly.1 moment id buffer calls (still_as calls (l.heard ++ l.closed) l.whole (still_both l.heard l.closed plainly.0 (goes_seat_still gave index l.after old l.closed new l.goes)))
+        | inr given ↦
+            let none : l.closed ≡ [] = (subst (λ (s : Step). GoesSeat s index l.after old l.closed new) given.2.1.1 l.goes).0 in
+            let all : calls ≡ given.0 ++ call.read (seat_socket index) (part.Bytes given.1) (take given.1 buffer) ∷ [] = l.whole ∙ (ap (λ cs. l.heard ++ cs) none ∙ (append-nil l.heard ∙ given.2.1.0)) in
+            subst (λ (x : Found). Comes moment id x buffer calls) (found_as _ found gave given.2.1.1 f) (
+              (given.0, index, given.1, (still_plain given.0 given.2.0, all)),
+              ap printed all ∙ (printed_append given.0 _ ∙ (append-nil (printed given.0) ∙ still_silent given.0 given.2.0)),
+            )
+      ]
 ]
 
 -- A link.
@@ -262,11 +281,18 @@ standing_plainly standing.NotYet gave found g f = none_found found gave g f
 standing_plainly standing.Stands gave found g f = subst Plainly (found_as _ found gave g f) (λ m i b c p. (still_plain c p, still_silent c p))
 standing_plainly standing.Failed gave found g f = subst Plainly (last_as _ found gave g f) (λ m i b c p. (still_plain c p, still_silent c p))
 
-stream_plainly : (answer : Part) (server : List ℕ) (gave : Step) (found : Found) → gave ≡ part_step server answer → IsFound gave found → Plainly found
-stream_plainly part.Nothing server gave found g f = none_found found gave g f
-stream_plainly (part.Bytes len) server gave found g f = subst Plainly (found_as _ found gave g f) (λ m i b c p. (still_plain c p, still_silent c p))
-stream_plainly part.End server gave found g f = subst Plainly (last_as _ found gave g f) (λ m i b c p. (still_plain c p, still_silent c p))
-stream_plainly part.Failed server gave found g f = subst Plainly (last_as _ found gave g f) (λ m i b c p. (still_plain c p, still_silent c p))
+stream_comes : (answer : Part) (key : ℕ) (link : Link) (server : List ℕ) (old new : Slab Link) (heard closed calls : List Call) (gave : Step) (buffer : List ℕ) (moment id : ℕ) (found : Found) → heard ≡ call.read (link_socket key) answer (part_bytes answer buffer) ∷ [] → gave ≡ part_step server answer → Goes gave key link old closed new → calls ≡ heard ++ closed → IsFound gave found → Comes moment id found buffer calls
+stream_comes part.Nothing key link server old new heard closed calls gave buffer moment id found h g goes whole f = none_found found gave g f
+stream_comes (part.Bytes len) key link server old new heard closed calls gave buffer moment id found h g goes whole f =
+    let none : closed ≡ [] = (subst (λ (s : Step). Goes s key link old closed new) g goes).0 in
+    let all : calls ≡ call.read (link_socket key) (part.Bytes len) (take len buffer) ∷ [] = whole ∙ (ap (λ cs. heard ++ cs) none ∙ (append-nil heard ∙ h)) in
+    subst (λ (x : Found). Comes moment id x buffer calls) (found_as _ found gave g f) ((link_socket key, len, (link_high key, all)), ap printed all)
+stream_comes part.End key link server old new heard closed calls gave buffer moment id found h g goes whole f =
+    let still : AreStill calls = still_as calls (heard ++ closed) whole (still_both heard closed (still_as heard _ h ((tt, refl), tt)) (goes_still gave key link old closed new goes)) in
+    subst (λ (x : Found). Comes moment id x buffer calls) (last_as _ found gave g f) (still_plain calls still, still_silent calls still)
+stream_comes part.Failed key link server old new heard closed calls gave buffer moment id found h g goes whole f =
+    let still : AreStill calls = still_as calls (heard ++ closed) whole (still_both heard closed (still_as heard _ h ((tt, refl), tt)) (goes_still gave key link old closed new goes)) in
+    subst (λ (x : Found). Comes moment id x buffer calls) (last_as _ found gave g f) (still_plain calls still, still_silent calls still)
 
 missing_plainly : (cause : NoSocket) (gave : Step) (found : Found) → gave ≡ missing_step cause → IsFound gave found → Plainly found
 missing_plainly no_socket.PortTaken gave found g f = subst Plainly (last_as _ found gave g f) (λ m i b c p. (still_plain c p, still_silent c p))
@@ -276,8 +302,7 @@ link_comes : (way : Way) (key : ℕ) (link : Link) (server : List ℕ) (old new 
 link_comes Udp key link server old new heard closed calls gave buffer moment id found h goes whole f = datagram_comes h.0 key link old new heard closed calls gave buffer moment id found h.1.0 h.1.1 goes whole f
 link_comes Connecting key link server old new heard closed calls gave buffer moment id found h goes whole f =
     standing_plainly h.0 gave found h.1.1 f moment id buffer calls (still_as calls (heard ++ closed) whole (still_both heard closed (still_as heard _ h.1.0 ((tt, refl), tt)) (goes_still gave key link old closed new goes)))
-link_comes Connected key link server old new heard closed calls gave buffer moment id found h goes whole f =
-    stream_plainly h.0 server gave found h.1.1 f moment id buffer calls (still_as calls (heard ++ closed) whole (still_both heard closed (still_as heard _ h.1.0 ((tt, refl), tt)) (goes_still gave key link old closed new goes)))
+link_comes Connected key link server old new heard closed calls gave buffer moment id found h goes whole f = stream_comes h.0 key link server old new heard closed calls gave buffer moment id found h.1.0 h.1.1 goes whole f
 link_comes (Missing cause) key link server old new heard closed calls gave buffer moment id found h goes whole f =
     missing_plainly cause gave found h.1 f moment id buffer calls (still_as calls (heard ++ closed) whole (still_both heard closed (still_as heard [] h.0 tt) (goes_still gave key link old closed new goes)))
 
@@ -329,17 +354,21 @@ write_still Connecting socket bytes said = ((tt, refl), rest_still (took_all (le
 write_still Connected socket bytes said = ((tt, refl), rest_still (took_all (length bytes) said) socket)
 write_still (Missing cause) socket bytes said = tt
 
-put_still : (empty : Bool) (socket : ℕ) (bytes : List ℕ) (said : Option ℕ) → AreStill (if empty then call.write socket bytes said ∷ [] else [])
-put_still true socket bytes said = ((tt, refl), tt)
-put_still false socket bytes said = tt
+-- Bytes for a connection: one write of all of them, or none.
+abbrev PutsWhole : (bytes : List ℕ) → List Call → Type 0
+PutsWhole bytes calls = (calls ≡ []) ⊎ ((at : ℕ) × (took : Option ℕ) × (calls ≡ call.write (seat_socket at) bytes took ∷ []))
 
-puts_conn_still : (failed : Bool) (socket : ℕ) (seat : Seat) (conn : Conn) (bytes : List ℕ) (calls : List Call) (new : Seat) → PutsConn failed socket seat conn bytes calls new → AreStill calls
-puts_conn_still true socket seat conn bytes calls new p = still_as calls [] p.0 tt
-puts_conn_still false socket seat conn bytes calls new p = still_as calls _ p.1.0 (put_still (length seat.backlog == 0) socket bytes p.0)
+put_whole : (empty : Bool) (index : ℕ) (bytes : List ℕ) (said : Option ℕ) (calls : List Call) → calls ≡ (if empty then call.write (seat_socket index) bytes said ∷ [] else []) → PutsWhole bytes calls × (printed calls ≡ [])
+put_whole true index bytes said calls e = (inr (index, said, e), ap printed e)
+put_whole false index bytes said calls e = (inl e, ap printed e)
 
-puts_seat_still : (conn : Option Conn) (socket : ℕ) (seat : Seat) (bytes : List ℕ) (calls : List Call) (new : Seat) → PutsSeat conn socket seat bytes calls new → AreStill calls
-puts_seat_still None socket seat bytes calls new p = still_as calls [] p.0 tt
-puts_seat_still (Some conn) socket seat bytes calls new p = puts_conn_still conn.failed socket seat conn bytes calls new p
+puts_conn_whole : (failed : Bool) (index : ℕ) (seat : Seat) (conn : Conn) (bytes : List ℕ) (calls : List Call) (new : Seat) → PutsConn failed (seat_socket index) seat conn bytes calls new → PutsWhole bytes calls × (printed calls ≡ [])
+puts_conn_whole true index seat conn bytes calls new p = (inl p.0, ap printed p.0)
+puts_conn_whole false index seat conn bytes calls new p = put_whole (length seat.backlog == 0) index bytes p.0 calls p.1.0
+
+puts_seat_whole : (conn : Option Conn) (index : ℕ) (seat : Seat) (bytes : List ℕ) (calls : List Call) (new : Seat) → PutsSeat conn (seat_socket index) seat bytes calls new → PutsWhole bytes calls × (printed calls ≡ [])
+puts_seat_whole None index seat bytes calls new p = (inl p.0, ap printed p.0)
+puts_seat_whole (Some conn) index seat bytes calls new p = puts_conn_whole conn.failed index seat conn bytes calls new p
 
 udp_silent : (o : Opening) (socket : ℕ) (from : List ℕ) (port : ℕ) (server query : List ℕ) → printed (udp_calls socket from port server query o) ≡ []
 udp_silent (opening.Refused cause) socket from port server query = refl
@@ -408,18 +437,16 @@ makes_does : (x : Action) (a : Edge) (calls : List Call) (b : Edge) → Makes x 
 makes_does (reply addr port bytes) a calls b m =
     let r = reply_done addr port bytes a.hears a.from calls m.0 in
     (r.0, (ap outside m.1, no_line a b calls r.1 (ap (λ (e : Edge). e.log.text) m.1)))
-makes_does (conn_reply conn bytes) a calls b m =
-    let s : AreStill calls = elim m.0 [
-      | inl none ↦ still_as calls [] none.1.0 tt
-      | inr there ↦ puts_seat_still there.1.conn (seat_socket there.0) there.1 bytes calls there.2 there.3.1.0
-    ] in
-    still_does a b calls s (ap outside m.1) (ap (λ (e : Edge). e.log.text) m.1)
-makes_does (conn_close conn) a calls b m =
-    let s : AreStill calls = elim m.0 [
-      | inl none ↦ still_as calls [] none.1.0 tt
-      | inr there ↦ still_as calls (call.close (seat_socket there.0) ∷ []) there.2.1.0 ((tt, refl), tt)
-    ] in
-    still_does a b calls s (ap outside m.1) (ap (λ (e : Edge). e.log.text) m.1)
+makes_does (conn_reply conn bytes) a calls b m = elim m.0 [
+  | inl none ↦ (inl none.1.0, (ap outside m.1, no_line a b calls (ap printed none.1.0) (ap (λ (e : Edge). e.log.text) m.1)))
+  | inr there ↦
+      let whole = puts_seat_whole there.1.conn there.0 there.1 bytes calls there.2 there.3.1.0 in
+      (whole.0, (ap outside m.1, no_line a b calls whole.1 (ap (λ (e : Edge). e.log.text) m.1)))
+]
+makes_does (conn_close conn) a calls b m = elim m.0 [
+  | inl none ↦ (inl none.1.0, (ap outside m.1, no_line a b calls (ap printed none.1.0) (ap (λ (e : Edge). e.log.text) m.1)))
+  | inr there ↦ (inr (there.0, there.2.1.0), (ap outside m.1, no_line a b calls (ap printed there.2.1.0) (ap (λ (e : Edge). e.log.text) m.1)))
+]
 makes_does (udp link port server query) a calls b m = elim m.0 [
   | inl full ↦ (inl full.1.0, (ap outside m.1, no_line a b calls (ap printed full.1.0) (ap (λ (e : Edge). e.log.text) m.1)))
   | inr made ↦ (

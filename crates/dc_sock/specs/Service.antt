@@ -1,6 +1,7 @@
 -- What a whole run looks like to who runs the service, in the calls of its system: what came, what was sent, and what was printed.
 use Rattle.std.specs.Prelude.{◌≡◌, ◌⊎◌, ◌≤◌, ℕ, Bool, true, false, if◌then◌else◌, List, [], ◌∷◌, ◌++◌}
 use Rattle.std.specs.List.{AllByRecursion}
+use Rattle.std.specs.declared.option.Option.{Option}
 use Rattle.dc_model.specs.Event.{Event as ModelEvent, Kind, tick, request, datagram, link_up, link_bytes, link_down, bind_refused, conn_up, conn_bytes, conn_down, Action, reply, conn_reply, conn_close, udp, tcp, link_write, link_close, line}
 use Rattle.dc_event.specs.History.{Answer, Exchange, listened, asked, gathered, did}
 use Rattle.dc_event.specs.History as history
@@ -8,10 +9,13 @@ use Rattle.dc_system.specs.Call.{Call}
 use Rattle.dc_system.specs.Call as call
 use Rattle.dc_system.specs.declared.answers.Bound.{Bound}
 use Rattle.dc_system.specs.declared.answers.Letter.{Letter}
+use Rattle.dc_system.specs.declared.answers.Accepted.TheVariants as accepted
+use Rattle.dc_system.specs.declared.answers.Part.TheVariants as part
+use Rattle.dc_system.specs.declared.answers.Peer.{Peer}
 use Rattle.dc_system.specs.declared.answers.Received.{Received}
 use Rattle.dc_system.specs.declared.answers.Received.TheVariants as received
 use Rattle.dc_sock.specs.declared.link.Opening.{Opening}
-use Rattle.dc_sock.specs.ClientCalls.{Hearing, listen_calls, hears_after, went_well}
+use Rattle.dc_sock.specs.ClientCalls.{seat_socket, Hearing, listen_calls, hears_after, went_well}
 use Rattle.dc_sock.specs.LinkCalls.{udp_calls, tcp_calls}
 use Rattle.dc_sock.specs.World.{Shown}
 
@@ -44,18 +48,21 @@ abbrev pub ArePlain : List Call → Type 0
 ArePlain calls = AllByRecursion IsPlain calls
 
 -- These calls gave an event of this kind: a request is the bytes and the sender of one datagram on the clients' socket, a datagram of a server
--- those of one on a link's socket, and no other event takes one.
+-- those of one on a link's socket, and no other event takes one. A connection is one that was accepted, with its peer; bytes of a stream are
+-- those of one part that was read.
 abbrev pub ComesBy : Kind → ModelEvent → List Call → Type 0
 ComesBy request e calls = (letter : Letter) × ((calls ≡ call.receive 0 (received.Datagram letter) e.bytes ∷ []) × ((e.addr ≡ letter.addr) × (e.port ≡ letter.port)))
 ComesBy datagram e calls =
     (socket : ℕ) × (letter : Letter) × ((26 ≤ socket) × ((calls ≡ call.receive socket (received.Datagram letter) e.bytes ∷ []) × ((e.addr ≡ letter.addr) × (e.port ≡ letter.port))))
 ComesBy tick e calls = ArePlain calls
 ComesBy link_up e calls = ArePlain calls
-ComesBy link_bytes e calls = ArePlain calls
+ComesBy link_bytes e calls = (socket : ℕ) × (len : ℕ) × ((26 ≤ socket) × (calls ≡ call.read socket (part.Bytes len) e.bytes ∷ []))
 ComesBy link_down e calls = ArePlain calls
 ComesBy bind_refused e calls = ArePlain calls
-ComesBy conn_up e calls = ArePlain calls
-ComesBy conn_bytes e calls = ArePlain calls
+ComesBy conn_up e calls =
+    (index : ℕ) × (peer : Peer) × ((calls ≡ call.accept 1 (seat_socket index) (accepted.Connection peer) ∷ []) × ((e.addr ≡ peer.addr) × (e.port ≡ peer.port)))
+ComesBy conn_bytes e calls =
+    (flushed : List Call) × (index : ℕ) × (len : ℕ) × (ArePlain flushed × (calls ≡ flushed ++ call.read (seat_socket index) (part.Bytes len) e.bytes ∷ []))
 ComesBy conn_down e calls = ArePlain calls
 
 abbrev pub Came : ModelEvent → List Call → Type 0
@@ -70,7 +77,8 @@ Said (history.bad number) calls = ⊥
 
 -- What was done for an action, where clients are heard or not, and links are opened from this address. A reply is one datagram with exactly its
 -- bytes to its client. A query is one datagram with exactly its bytes, from that address and its local port, to port 53 of its server alone,
--- unless that is refused or all links stand. Anything else sends no datagram.
+-- unless that is refused or all links stand. Bytes for a client's connection are given to its stream whole in one call, or wait or are dropped
+-- with it. Anything else sends no datagram.
 abbrev pub Done : Action → (hears : Bool) (from : List ℕ) → List Call → Type 0
 Done (reply addr port bytes) true from calls = (sent : Bool) × (calls ≡ call.send_to 0 addr port bytes sent ∷ [])
 Done (reply addr port bytes) false from calls = calls ≡ []
@@ -78,8 +86,8 @@ Done (udp link port server query) hears from calls =
     (calls ≡ []) ⊎ ((socket : ℕ) × (opening : Opening) × ((26 ≤ socket) × (calls ≡ udp_calls socket from port server query opening)))
 Done (tcp link port server) hears from calls =
     (calls ≡ []) ⊎ ((socket : ℕ) × (answer : Bound) × ((26 ≤ socket) × (calls ≡ tcp_calls socket from port server answer)))
-Done (conn_reply conn bytes) hears from calls = ArePlain calls
-Done (conn_close conn) hears from calls = ArePlain calls
+Done (conn_reply conn bytes) hears from calls = (calls ≡ []) ⊎ ((index : ℕ) × (took : Option ℕ) × (calls ≡ call.write (seat_socket index) bytes took ∷ []))
+Done (conn_close conn) hears from calls = (calls ≡ []) ⊎ ((index : ℕ) × (calls ≡ call.close (seat_socket index) ∷ []))
 Done (link_write link bytes) hears from calls = ArePlain calls
 Done (link_close link) hears from calls = ArePlain calls
 Done (line text) hears from calls = ArePlain calls
