@@ -1,0 +1,4 @@
+use Rattle.dc_sock_tests.proofs.rehearsal.RehearsalSystem.print.Goals as goal
+
+pub returns-in-Err : goal.returns-in-Err
+returns-in-Err c = c.lose.ensures _ _
