@@ -3,4 +3,3 @@ pub mod Alone
 pub mod Faults
 pub mod Replay
 pub mod Serving
-pub mod Trusting
