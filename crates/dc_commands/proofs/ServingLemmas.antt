@@ -21,6 +21,8 @@ use Rattle.dc_serve.specs.Serve.{Ran, Ends, Justified, each_passes, passes}
 use Rattle.dc_serve.specs.declared.Served.{Served}
 use Rattle.dc_serve.specs.declared.Served.TheVariants as served
 use Rattle.dc_core.specs.Running.{Running, core_machine}
+use Rattle.dc_trust.specs.Faith.{HaveSixteen}
+use Rattle.dc_commands.proofs.Trusted.{run_trusted}
 use Rattle.dc_commands.specs.Replay.{cache_of}
 use Rattle.dc_commands.specs.Serving.{machine_after, at_event, machine_passes, last_passes, Closes, Serving, IsSession, Refused, Unserved, status_from, refused_by}
 use Rattle.dc_commands.specs.declared.status.Status.{Status}
@@ -123,13 +125,13 @@ Follows {W} history = (a b c : W) (x : Exchange) (ys : List Exchange) → histor
 -- A world listened, and a core served its events.
 pub serves : {W : Type 0} (history : W → List Exchange → W → Type 0) (used_up : W → Type 0) (broken : W → ℕ → Type 0)
     (old mid new : W) (c : Config) (seed : List ℕ) (drawn : Drawn) (start core : Running) (limit : ℕ) (answer : Served) (status : Status) (events : List Event)
-    → Follows history → history old (listened c.ip c.ipsend true ∷ []) mid
+    → Follows history → HaveSixteen c.zones → history old (listened c.ip c.ipsend true ∷ []) mid
     → drawn ≡ record { seed = seed; given = 0 } → start ≡ core_opening c
     → history mid (passes core_machine (draws_of drawn.seed) drawn.given start events answer) new
     → Ran core_machine (draws_of drawn.seed) drawn.given start core limit events answer
     → Justified answer (used_up new) (broken new) → status ≡ status_from answer
     → Serving history used_up broken old new c seed limit status core
-serves history used_up broken old mid new c seed drawn start core limit answer status events follows listening words opened passed ran just ended =
+serves history used_up broken old mid new c seed drawn start core limit answer status events follows places listening words opened passed ran just ended =
     let r = ran_begun c seed drawn start core limit answer events words opened ran in
     let h = passed_begun history mid new c seed drawn start answer events words opened passed in
     let all = follows old mid new (listened c.ip c.ipsend true) _ listening (subst (λ l. history mid l new) (serving_is c seed events answer (length events) limit r.ends) h) in
@@ -138,6 +140,7 @@ serves history used_up broken old mid new c seed drawn start core limit answer s
       bounded = r.bounded;
       passed = all;
       core_is = r.state ∙ run_state c seed events;
+      trust = run_trusted c seed events places r.bounded;
       closes = closes answer (length events) limit (used_up new) (broken new) r.ends just;
     })
 

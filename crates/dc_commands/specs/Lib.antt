@@ -4,4 +4,3 @@ pub mod Faults
 pub mod Simulating
 pub mod Replay
 pub mod Serving
-pub mod Trusting

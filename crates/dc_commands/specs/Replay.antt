@@ -1,10 +1,11 @@
 -- What replaying a script comes to.
-use Rattle.std.specs.Prelude.{◌≡◌, ℕ, ◌+◌, min, max, List, [], ◌++◌}
+use Rattle.std.specs.Prelude.{◌≡◌, ℕ, ◌+◌, min, max, List, [], ◌++◌, take}
 use Rattle.std.specs.declared.option.Option.{Option}
 use Rattle.std.specs.Io.KnownBytes.{IsAtEnd}
 use Rattle.dc_model.specs.Cache.{Cache, empty}
 use Rattle.dc_model.specs.Event.{Event, Action}
-use Rattle.dc_machine.specs.Run.{seeded_run, actions_of}
+use Rattle.dc_machine.specs.Run.{Taken, seeded_run, actions_of}
+use Rattle.dc_trust.specs.Promises.{KeepsPromises}
 use Rattle.dc_event.specs.Told.{BeginsWith}
 use Rattle.dc_rules.specs.Settings.{rules_of}
 use Rattle.dc_rules.specs.declared.config.Config.{Config}
@@ -23,9 +24,13 @@ use Rattle.dc_commands.specs.declared.status.Status.TheVariants.{Done, Spent, Us
 abbrev pub cache_of : Config → Cache
 cache_of c = empty (min (max c.size 100) 1000000000)
 
+-- The machine's run of these events, with a configuration and a seed.
+abbrev pub run_with : Config → List ℕ → List Event → List Taken
+run_with c seed events = seeded_run (rules_of c) seed (cache_of c) events
+
 -- What the resolver's machine does at these events, with a configuration and a seed.
 unfoldable pub machine_run : Config → List ℕ → List Event → List Action
-machine_run c seed events = actions_of (seeded_run (rules_of c) seed (cache_of c) events)
+machine_run c seed events = actions_of (run_with c seed events)
 
 -- The status of what was played.
 abbrev pub status_of : Played → Status
@@ -53,6 +58,12 @@ unfoldable pub whole_text : HeadRead → List ℕ
 whole_text (other k) = []
 whole_text (behind h k pieces) = text_of (machine_run h.config h.seed (said_from line_event (k + 1) pieces).events)
 
+-- The run that a script asks for keeps its promises, at however many of its events are handled.
+unfoldable pub RunsTrusted : HeadRead → Type 0
+RunsTrusted (other k) = Unit {0}
+RunsTrusted (behind h k pieces) =
+    (n : ℕ) → KeepsPromises (rules_of h.config).zones (run_with h.config h.seed (take n (said_from line_event (k + 1) pieces).events))
+
 -- What was promised, the text of the lines that were read whole, the text that was written, and the status: the whole text; or, where the
 -- input failed, that of the lines that were read whole; or a front, where the output failed; or nothing, where there wasn't memory enough.
 -- Other statuses don't come.
@@ -73,7 +84,7 @@ Keeps promised whole text SeedShort = ⊥
 Keeps promised whole text WorldFault = ⊥
 
 -- What a replay did with its source and its sink: these bytes were taken and this text was written, and whatever may follow the bytes, the
--- text is what was promised of them. It is done only at the end of the source. Where memory is refused, the sink is as it was.
+-- text is what was promised of them, and the run that they ask for keeps its promises. It is done only at the end of the source. Where memory is refused, the sink is as it was.
 pub record Replayed {S K : Type 0} (took : S → List ℕ → S → Type 0) (left : S → Option (List ℕ)) (gained : K → List ℕ → K → Type 0) (source source' : S) (sink sink' : K)
     (limit : ℕ) (status : Status) : Type 0 where
   pub bytes : List ℕ
@@ -81,5 +92,6 @@ pub record Replayed {S K : Type 0} (took : S → List ℕ → S → Type 0) (lef
   pub taken : took source bytes source'
   pub written : gained sink text sink'
   pub keeps : (tail : List ℕ) → MayFollow (left source') tail → Keeps (outcome limit (head_of (bytes ++ tail))) (whole_text (head_of bytes)) text status
+  pub trust : (tail : List ℕ) → MayFollow (left source') tail → RunsTrusted (head_of (bytes ++ tail))
   pub end : status ≡ Done → IsAtEnd (left source')
   pub unwritten : status ≡ NoMemory → sink' ≡ sink

@@ -7,7 +7,7 @@ use Rattle.std.specs.Prelude.{Result, Ok, Err}
 use Rattle.dc_model.specs.Event.{Event, IsEvent, line}
 use Rattle.dc_model.specs.Line.{line_starting}
 use Rattle.dc_machine.specs.Machine.{Machine, wake}
-use Rattle.dc_machine.specs.Run.{Taken, seeded_run, opening, last_of}
+use Rattle.dc_machine.specs.Run.{Taken, opening, last_of}
 use Rattle.dc_rules.specs.Settings.{rules_of}
 use Rattle.dc_rules.specs.declared.config.Config.{Config}
 use Rattle.dc_event.specs.History.{Exchange, listened, asked, did, gave, ended, failed, bad, done_all}
@@ -19,7 +19,8 @@ use Rattle.dc_config.specs.declared.error.Variable.{Variable as Named}
 use Rattle.dc_config.specs.declared.error.ConfigError.{ConfigError}
 use Rattle.dc_config.specs.declared.error.ConfigError.TheVariants as config
 use Rattle.dc_core.specs.Running.{Running}
-use Rattle.dc_commands.specs.Replay.{cache_of}
+use Rattle.dc_trust.specs.Promises.{KeepsPromises}
+use Rattle.dc_commands.specs.Replay.{cache_of, run_with}
 use Rattle.dc_serve.specs.declared.Served.{Served as Answer}
 use Rattle.dc_serve.specs.declared.Served.TheVariants as served
 use Rattle.dc_commands.specs.declared.serving.Seed.{Seed}
@@ -35,10 +36,6 @@ refused_by config.NoRoot = NoRoot
 refused_by (config.BadPermit f) = BadPermit f
 refused_by config.FilesFault = FilesFault
 refused_by config.NoMemory = NoMemory
-
--- The machine's run of these events, with a configuration and a seed.
-abbrev pub run_with : Config → List ℕ → List Event → List Taken
-run_with c seed events = seeded_run (rules_of c) seed (cache_of c) events
 
 -- The machine behind it.
 unfoldable pub machine_after : Config → List ℕ → List Event → Machine
@@ -88,6 +85,7 @@ pub record Serving {W : Type 0} (history : W → List Exchange → W → Type 0)
   pub bounded : All IsEvent events
   pub passed : history old (session_passes c seed events status) new
   pub core_is : core ≡ record { rules = rules_of c; machine = machine_after c seed events; handled = length events }
+  pub trust : KeepsPromises (rules_of c).zones (run_with c seed events)
   pub closes : Closes status (length events) limit (used_up new) (broken new)
 
 -- The configuration is the one that is defined, where the files tell it.

@@ -111,6 +111,7 @@ pub fn serve_command<F: Files, S: Source, W: World>(
         Ok(config) => config,
         Err(error) => return Session::refused(Status::from(error)),
     };
+    config.zones.have_places();
     let seed = match take_seed(source) {
         Seed::Whole(seed) => seed,
         Seed::Short => return Session::refused(Status::SeedShort),

@@ -51,11 +51,16 @@ unfolding step
 step_asks rules H C m e draws g z b s f k =
     let i : Input = record { rules = rules; event = e; draws = draws } in
     all_map _ _ (step_by e.kind i m).machine.queries (λ x y. elim y [
-      inl h ↦ inl (record { serial = h.serial; turns = h.turns; starts = h.starts; link = h.link })
-      | inr o ↦ inr (record { from = o.from; there = o.there; serial = o.serial; moved = elim o.moved [
-        inl w ↦ inl (record { turns = w.turns; starts = w.starts; link = w.link })
-        | inr w ↦ inr (w.query, w.goes)
-      ] })
+      | inl h ↦ inl (record { serial = h.serial; turns = h.turns; starts = h.starts; link = h.link })
+      | inr o ↦ inr (record {
+        from = o.from;
+        there = o.there;
+        serial = o.serial;
+        moved = elim o.moved [
+          | inl w ↦ inl (record { turns = w.turns; starts = w.starts; link = w.link })
+          | inr w ↦ inr (w.query, w.goes)
+        ];
+      })
     ])
     (step_by_fair i H C g z b m k s f e.kind refl)
 
@@ -314,7 +319,7 @@ counted_on rules H C seen n m e draws g z b s f k h = record { fits = from_among
       let old' : Fits (asked_by a.serial seen) x.from = subst (λ v. Fits (asked_by v seen) x.from) (sym x.serial) old in
       let l = (of_among _ m.queries x.from s.each x.there).link in
       elim x.moved [
-        inl y ↦ restarts_fits m x.from a (asked_by a.serial seen) old' y
+        | inl y ↦ restarts_fits m x.from a (asked_by a.serial seen) old' y
         | inr y ↦ goes_fits m x.from a (asked_by a.serial seen) l old' y.0 y.1
       ]
 

@@ -4,9 +4,10 @@ ghost use Rattle.std.specs.Prelude.{◌≡◌, [], ◌++◌};
 ghost use Rattle.dc_model.specs.Cache.{empty, listed};
 ghost use Rattle.dc_model.specs.Rules.{one};
 ghost use Rattle.dc_machine.specs.Run.{run, last_of, opening, actions_of};
-ghost use Rattle.dc_machine.specs.Examples.{example_rules, no_words};
-ghost use Rattle.dc_machine.specs.Cases.{silence_events};
+ghost use Rattle.dc_machine.specs.Examples.{example_rules, no_words, www_events};
+ghost use Rattle.dc_machine.specs.Cases.{silence_events, cut_events, ports_events};
 ghost use Rattle.dc_trust.specs.Patience.{deadlines_of};
+ghost use Rattle.dc_trust.specs.Asking.{asked_by};
 ghost use Rattle.dc_trust.specs.Cases.{asked_actions, referred_actions, foreign_events, foreign_actions, glue_events, glue_actions, late_events, forged_events, turning_events, turning_actions};
 
 /// An address that a server adds for a name outside its zone is neither told nor kept: the name is asked for from the root.
@@ -39,4 +40,13 @@ pub fn case_turning_alias()
 pub fn case_deadlines()
     ensures silence { deadlines_of 1 (run (example_rules one) no_words (empty 1000000) silence_events) ≡ 4 }
     ensures turning { deadlines_of 1 (run (example_rules one) no_words (empty 1000000) turning_events) ≡ 0 }
+{}
+
+/// Two referrals and an answer are three transmissions. A server that doesn't answer is asked four times in one; an answer that is
+/// cut short costs one attempt more, over TCP; and further local ports cost none.
+pub fn case_transmissions()
+    ensures referrals { asked_by 1 (run (example_rules one) no_words (empty 1000000) www_events) ≡ record { transmissions = 3; udp = 1; tcp = 0 } }
+    ensures silence { asked_by 1 (run (example_rules one) no_words (empty 1000000) silence_events) ≡ record { transmissions = 1; udp = 4; tcp = 0 } }
+    ensures cut { asked_by 1 (run (example_rules one) no_words (empty 1000000) cut_events) ≡ record { transmissions = 1; udp = 1; tcp = 1 } }
+    ensures ports { asked_by 1 (run (example_rules one) no_words (empty 1000000) ports_events) ≡ record { transmissions = 1; udp = 1; tcp = 0 } }
 {}

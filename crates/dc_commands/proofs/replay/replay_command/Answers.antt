@@ -10,6 +10,7 @@ use Rattle.dc_commands.specs.Faults.{fault_of, source_well, sink_well}
 use Rattle.dc_commands.proofs.FareLemmas.{played_source, played_sink, played_done, played_in_memory, fares_as}
 use Rattle.dc_commands.proofs.MachineRuns.{run_from}
 use Rattle.dc_commands.proofs.Promised.{other_keeps, nothing_whole, behind_keeps}
+use Rattle.dc_commands.proofs.Trusted.{script_trusted}
 use Rattle.dc_commands.proofs.replay.replay_command.Goals as goal
 
 pub returns-in-Err-Bad-clause-replayed : goal.returns-in-Err-Bad-clause-replayed
@@ -22,6 +23,7 @@ returns-in-Err-Bad-clause-replayed g c =
       taken = head.1;
       written = g.met.K.Sink.gained_none c.args.sink.now;
       keeps = λ tail follows. rw c.in-Err-Bad.field-0-is (other_keeps (limit_of c.args.turns) c.in-Err-Bad.line (head_of (head.0 ++ tail)) [] (stands tail follows));
+      trust = λ tail follows. script_trusted (head.0 ++ tail);
       end = λ e. cc;
       unwritten = λ e. refl;
     }
@@ -36,6 +38,7 @@ returns-in-Err-ReadFault-clause-replayed g c =
       taken = head.1;
       written = g.met.K.Sink.gained_none c.args.sink.now;
       keeps = λ tail follows. nothing_whole (length (pieces_of head.0)) (head_of head.0) stands;
+      trust = λ tail follows. script_trusted (head.0 ++ tail);
       end = λ e. cc;
       unwritten = λ e. refl;
     }
@@ -53,6 +56,7 @@ returns-clause-replayed g c =
       written = told.1.2;
       keeps = λ tail follows. behind_keeps (run_of core_machine (draws_of script.seed) core) (limit_of c.args.turns) script.lines (head_at script) head.0 script.rest.rest told.0 tail told.1.0
           c.play.result c.from.result (run_from core script.config script.seed c.in-Ok-core_of.ensures) head.2 (told.1.3 tail follows) c.from.ensures;
+      trust = λ tail follows. script_trusted ((head.0 ++ told.0) ++ tail);
       end = λ e. c.play.ensures.end (played_done c.play.result (sym c.from.ensures ∙ e));
       unwritten = λ e. played_in_memory c.play.result _ (sym c.from.ensures ∙ e);
     }
@@ -76,6 +80,35 @@ returns-in_default-clause-replayed g c = record {
   taken = g.met.S.Source.took_none c.args.source.now;
   written = g.met.K.Sink.gained_none c.args.sink.now;
   keeps = λ tail follows. refl;
+  trust = λ tail follows. script_trusted tail;
   end = λ e. cc;
   unwritten = λ e. refl;
 }
+
+pub returns-in-Err-NoMemory-clause-replayed : goal.returns-in-Err-NoMemory-clause-replayed
+returns-in-Err-NoMemory-clause-replayed g c =
+    let head = c.in-Err-NoMemory.ensures.head in
+    record {
+      bytes = head.0;
+      text = [];
+      taken = head.1;
+      written = g.met.K.Sink.gained_none c.args.sink.now;
+      keeps = λ tail follows. refl;
+      trust = λ tail follows. script_trusted (head.0 ++ tail);
+      end = λ e. cc;
+      unwritten = λ e. refl;
+    }
+
+pub returns-in_default-core_of-clause-replayed : goal.returns-in_default-core_of-clause-replayed
+returns-in_default-core_of-clause-replayed g c =
+    let head = c.in-Ok-read_head.ensures.head in
+    record {
+      bytes = head.0;
+      text = [];
+      taken = head.1;
+      written = g.met.K.Sink.gained_none c.args.sink.now;
+      keeps = λ tail follows. refl;
+      trust = λ tail follows. script_trusted (head.0 ++ tail);
+      end = λ e. cc;
+      unwritten = λ e. refl;
+    }

@@ -88,7 +88,7 @@ returns-clause-served g c =
         seed.2.1,
         serves w.history w.used_up w.broken c.args.world.now c.listen.new.self c.serve-ended.new.world config seed.0
             c.from_seed-draws.result c.in-Ok-memory_of.core c.serve-ended.new.engine (limit_of c.args.turns) c.serve-ended.result c.status_of.result run.0
-            g.met.W.World.history_then (subst (λ b. w.history c.args.world.now (listened config.ip config.ipsend b ∷ []) c.listen.new.self) well c.listen.ensures.history)
+            g.met.W.World.history_then c.have_places.ensures (subst (λ b. w.history c.args.world.now (listened config.ip config.ipsend b ∷ []) c.listen.new.self) well c.listen.ensures.history)
             (c.from_seed-draws.ensures ∙ ap (λ s. record { seed = s; given = 0 }) (sym seed.2.0)) c.in-Ok-memory_of.ensures run.1 run.2 c.serve-ended.ensures.justified c.status_of.ensures,
       );
       conf = search rules;
