@@ -1,3 +1,4 @@
 pub mod Invoked
 pub mod Texts
 pub mod Exit
+pub mod Service

@@ -3,6 +3,7 @@
 
 mod ending;
 mod invocation;
+pub mod laws;
 mod memory;
 mod process;
 mod program;
