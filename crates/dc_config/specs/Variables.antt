@@ -1,5 +1,5 @@
 -- The variables that are read.
-use Rattle.std.specs.Prelude.{ℕ, ◌&&◌, if◌then◌else◌, nat_le, min, max, Bool, is_some, List, length, codes, Option, Some, None, option_and_then, Result, Ok, Err}
+use Rattle.std.specs.Prelude.{ℕ, ◌&&◌, if◌then◌else◌, nat_le, min, max, Bool, is_some, List, [], ◌∷◌, length, codes, Option, Some, None, option_and_then, Result, Ok, Err}
 use Rattle.std.specs.List.{list_all}
 use Rattle.dc_model.specs.Name.{is_digit, number_value, address_of}
 use Rattle.dc_config.specs.Environment.{Environment, value_of}
@@ -8,6 +8,16 @@ use Rattle.dc_config.specs.declared.error.Variable.TheVariants.{Ip, Ipsend, Cach
 use Rattle.dc_config.specs.declared.error.ConfigError.{ConfigError}
 use Rattle.dc_config.specs.declared.error.ConfigError.TheVariants.{BadVariable}
 use Rattle.dc_config.specs.declared.variables.Variables.{Variables}
+
+-- The name under which a variable is set.
+abbrev pub name_of : Variable → List ℕ
+name_of Ip = codes "IP"
+name_of Ipsend = codes "IPSEND"
+name_of Cachesize = codes "CACHESIZE"
+
+-- The names of all variables that are read.
+abbrev pub names : List (List ℕ)
+names = codes "IP" ∷ codes "IPSEND" ∷ codes "CACHESIZE" ∷ codes "FORWARDONLY" ∷ []
 
 -- The address that a variable says: it is one in text. 0.0.0.0 is one too.
 abbrev pub address_in : List ℕ → Environment → Option (List ℕ)

@@ -1,4 +1,6 @@
 //! Why there is no configuration.
+ghost use Rattle.std.specs.Prelude.{◌≡◌};
+ghost use Rattle.dc_config.specs.Variables.{name_of};
 
 use crate::FileName;
 use std::alloc::AllocError;
@@ -12,6 +14,19 @@ pub enum Variable {
     Ipsend,
     /// `CACHESIZE`, the number of bytes of the cache.
     Cachesize,
+}
+
+impl Variable {
+    /// The name under which it is set.
+    pub fn name(self) -> &'static str
+        ensures { result.now ≡ name_of self }
+    {
+        match self {
+            Variable::Ip => "IP",
+            Variable::Ipsend => "IPSEND",
+            Variable::Cachesize => "CACHESIZE",
+        }
+    }
 }
 
 /// Why there is no configuration.

@@ -21,4 +21,4 @@ pub use files::{FileRead, Files, Listed};
 pub use host::HostFiles;
 pub use memory::{MemoryFiles, QuietFiles};
 pub use std::alloc::AllocError as NoMemory;
-pub use variables::first_bad;
+pub use variables::{first_bad, names};

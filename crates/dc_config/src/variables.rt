@@ -1,5 +1,5 @@
 //! The variables that are read.
-ghost use Rattle.std.specs.Prelude.{◌≡◌};
+ghost use Rattle.std.specs.Prelude.{◌≡◌, map};
 ghost use Rattle.dc_config.specs.Variables as defined;
 
 use crate::{ConfigError, Env, Variable};
@@ -7,6 +7,21 @@ use dc_text::address;
 
 /// The greatest size of a cache in bytes.
 const MOST_SIZE: u64 = 1000000000;
+
+/// The variable that makes all questions forwarded, when it is set at all.
+const FORWARDONLY: &str = "FORWARDONLY";
+
+/// The names of all variables that are read.
+pub fn names() -> [&'static str; 4]
+    ensures { map (λ name. name.now) result ≡ defined.names }
+{
+    [
+        Variable::Ip.name(),
+        Variable::Ipsend.name(),
+        Variable::Cachesize.name(),
+        FORWARDONLY,
+    ]
+}
 
 /// What the variables say.
 #[derive(Clone, Copy, Debug)]
@@ -45,17 +60,17 @@ fn size_of(text: &[u8]) -> Option<u32>
 fn size_in(env: &Env) -> Option<u32>
     ensures { result ≡ defined.size_in env.now }
 {
-    size_of(env.get("CACHESIZE")?.as_bytes())
+    size_of(env.get(Variable::Cachesize.name())?.as_bytes())
 }
 
 /// What the variables say, or the first of IP, IPSEND and CACHESIZE that is absent or unreadable.
 pub(crate) fn read_variables(env: &Env) -> Result<Variables, ConfigError>
     ensures { result ≡ defined.variables_of env.now }
 {
-    let Some(ip) = address_in(env, "IP") else {
+    let Some(ip) = address_in(env, Variable::Ip.name()) else {
         return Err(ConfigError::BadVariable(Variable::Ip));
     };
-    let Some(ipsend) = address_in(env, "IPSEND") else {
+    let Some(ipsend) = address_in(env, Variable::Ipsend.name()) else {
         return Err(ConfigError::BadVariable(Variable::Ipsend));
     };
     let Some(size) = size_in(env) else {
@@ -63,7 +78,7 @@ pub(crate) fn read_variables(env: &Env) -> Result<Variables, ConfigError>
     };
     Ok(Variables {
         size,
-        forward: env.get("FORWARDONLY").is_some(),
+        forward: env.get(FORWARDONLY).is_some(),
         ip,
         ipsend,
     })
@@ -74,9 +89,9 @@ pub(crate) fn read_variables(env: &Env) -> Result<Variables, ConfigError>
 pub fn first_bad(env: &Env) -> Option<Variable>
     ensures { result ≡ defined.bad_variable env.now }
 {
-    if address_in(env, "IP").is_none() {
+    if address_in(env, Variable::Ip.name()).is_none() {
         Some(Variable::Ip)
-    } else if address_in(env, "IPSEND").is_none() {
+    } else if address_in(env, Variable::Ipsend.name()).is_none() {
         Some(Variable::Ipsend)
     } else if size_in(env).is_none() {
         Some(Variable::Cachesize)
