@@ -1,0 +1,3 @@
+pub mod Invoked
+pub mod Texts
+pub mod Exit
