@@ -18,16 +18,18 @@ fn invocation(alloc: Global) -> Result<MemoryInvocation, NoMemory> {
     let mut arguments = Vec::new(alloc);
     arguments.push(String::from_str(alloc, "dnscache")?)?;
     let mut variables = Env::new(alloc)?;
-    for (name, value) in [
-        ("IP", ADDRESS),
-        ("IPSEND", "0.0.0.0"),
-        ("CACHESIZE", "1000000"),
-    ] {
-        variables.set(
-            String::from_str(alloc, name)?,
-            String::from_str(alloc, value)?,
-        );
-    }
+    variables.set(
+        String::from_str(alloc, "IP")?,
+        String::from_str(alloc, ADDRESS)?,
+    );
+    variables.set(
+        String::from_str(alloc, "IPSEND")?,
+        String::from_str(alloc, "0.0.0.0")?,
+    );
+    variables.set(
+        String::from_str(alloc, "CACHESIZE")?,
+        String::from_str(alloc, "1000000")?,
+    );
     Ok(MemoryInvocation::new(arguments, variables))
 }
 
