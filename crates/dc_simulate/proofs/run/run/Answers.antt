@@ -4,7 +4,7 @@ use Rattle.dc_core.specs.Running.{Running}
 use Rattle.dc_draws.specs.Drawn.{Drawn}
 use Rattle.dc_machine.specs.Machine.{wake}
 use Rattle.dc_simulation.specs.World as model
-use Rattle.dc_simulation.specs.Loop.{Loop, loops}
+use Rattle.dc_simulation.specs.Loop.{loops}
 use Rattle.dc_simulate.specs.Told.{loop_of}
 use Rattle.dc_simulate.proofs.LoopLemmas.{Goes, goes_first, goes_more, goes_last}
 use Rattle.dc_simulate.proofs.run.run.Goals as goal
