@@ -63,7 +63,7 @@ module _ {K : Type 0} (gained : K → List ℕ → K → Type 0) (faults : K →
         count = omega (arith, p.count, q.count, n);
       }
 
-  pub flush_whole : (failed : Bool) (result : Put) (count : ℕ) (k l m : K) (held text : List ℕ) → count ≡ min (0 + length text) (2 ^ 64 - 1) → Passes gained faults false failed k [] text l held
+  pub flush_whole : (failed : Bool) (result : Put) (count : ℕ) (k l m : K) (held text : List ℕ) → min count (2 ^ 64 - 1) ≡ min (0 + length text) (2 ^ 64 - 1) → Passes gained faults false failed k [] text l held
       → Flushes gained faults failed result count l held m
       → PutWhole gained result k text m × IfPut result (faults m ≡ faults k) × (result ≡ Failed → Rose (faults k) (faults m))
   flush_whole false (Taken n) count k l m held text c p q =
@@ -74,6 +74,20 @@ module _ {K : Type 0} (gained : K → List ℕ → K → Type 0) (faults : K →
   flush_whole true (Taken n) count k l m held text c p q = absurd q
   flush_whole true Failed count k l m held text c p q =
       (subst (λ (x : K). GainedFront gained k text x) (sym q) p.0, tt, λ w. subst (λ (x : K). Rose (faults k) (faults x)) (sym q) p.1)
+
+  -- The same text, said otherwise.
+  pub wrote_as : {s t : Written} {k l : K} {xs ys : List ℕ} → xs ≡ ys → Wrote gained faults s k xs t l → Wrote gained faults s k ys t l
+  wrote_as {s} {t} {k} {l} e p = subst (λ (zs : List ℕ). Wrote gained faults s k zs t l) e p
+
+  -- Nothing was written.
+  pub wrote_none : (none : (a : K) → gained a [] a) (s : Written) (k : K) → Wrote gained faults s k [] s k
+  wrote_none none s k =
+      let same : s.count ≡ s.count + 0 = omega arith in
+      record { passed = passes_none s.failed k s.held none; count = ap (λ (n : ℕ). min n (2 ^ 64 - 1)) same }
+    where
+      passes_none : (b : Bool) (k : K) (held : List ℕ) (none : (a : K) → gained a [] a) → Passes gained faults b b k held [] k held
+      passes_none false k held none = ([], none k, sym (append-nil held), refl)
+      passes_none true k held none = refl
 
   -- A whole text was written, and all was put.
   pub whole : {w : Written} {k l m : K} {text : List ℕ} (s : Written) (result : Put) → s ≡ unwritten → Wrote gained faults s k text w l → Flushes gained faults w.failed result w.count l w.held m

@@ -30,11 +30,11 @@ Passes gained faults true true old held text new left = new ≡ old
 -- A text was written between two states of the writer and of the sink.
 pub record Wrote {K : Type 0} (gained : K → List ℕ → K → Type 0) (faults : K → ℕ) (old : Written) (sink_old : K) (text : List ℕ) (new : Written) (sink_new : K) : Type 0 where
   pub passed : Passes gained faults old.failed new.failed sink_old old.held text sink_new new.held
-  pub count : new.count ≡ counted (old.count + length text)
+  pub count : counted new.count ≡ counted (old.count + length text)
 
 -- All that is held was put, and this was answered.
 abbrev pub Flushes : {K : Type 0} → (K → List ℕ → K → Type 0) → (K → ℕ) → Bool → Put → ℕ → K → List ℕ → K → Type 0
-Flushes gained faults false (Taken n) count old held new = gained old held new × (n ≡ count) × (faults new ≡ faults old)
+Flushes gained faults false (Taken n) count old held new = gained old held new × (n ≡ counted count) × (faults new ≡ faults old)
 Flushes gained faults false Failed count old held new = GainedFront gained old held new × Rose (faults old) (faults new)
 Flushes gained faults true (Taken n) count old held new = ⊥
 Flushes gained faults true Failed count old held new = new ≡ old

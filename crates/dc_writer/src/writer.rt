@@ -1,6 +1,6 @@
 //! A writer: it gathers pieces of text, and puts them into a sink.
 ghost use Rattle.std.specs.Prelude.{◌≡◌, ℕ, ◌+◌, ◌-◌, ◌^◌, ◌≤◌, [], ◌++◌, min, length, decimal, true, false};
-ghost use Rattle.dc_writer.specs.Written.{Written, unwritten, Passes, Wrote, Flushes};
+ghost use Rattle.dc_writer.specs.Written.{Written, unwritten, counted, Passes, Wrote, Flushes};
 
 use arrayvec::ArrayVec;
 use dc_event::{Put, Sink, put_all};
@@ -69,8 +69,15 @@ impl Writer {
         if self.failed {
             Put::Failed
         } else {
-            Put::Taken(self.count)
+            Put::Taken(self.told())
         }
+    }
+
+    /// How many bytes were written, as far as a `usize` can say.
+    fn told(&self) -> usize
+        ensures { result ≡ counted self.now.count }
+    {
+        self.count
     }
 
     /// Holds bytes, or puts them where there is no room.
