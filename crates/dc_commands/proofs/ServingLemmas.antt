@@ -1,7 +1,7 @@
 -- What the loop tells of the core, said of the machine's run.
-use Rattle.std.proofs.Common.{◌≡◌, ◌≢◌, ℕ, ◌+◌, ◌≤◌, true, false, List, [], ◌∷◌, ◌++◌, length, flat_map, refl, ap, sym, ◌∙◌, arith, subst, Option, Some, None, Result, Ok, Err, ◌↔◌}
+use Rattle.std.proofs.Common.{◌≡◌, ℕ, ◌+◌, true, false, List, [], ◌∷◌, ◌++◌, length, flat_map, refl, ap, sym, ◌∙◌, arith, subst, Option, Some, None, Result, Ok, Err, ◌↔◌}
 use Rattle.dc_model.specs.Draws.{draws_of}
-use Rattle.std.specs.Prelude.{OnOk}
+use Rattle.dc_event.specs.Causes.{counted, count_by}
 use Rattle.std.specs.Result.{is_ok, is_err}
 use Rattle.dc_model.specs.Event.{Event, line}
 use Rattle.dc_model.specs.Line.{line_starting}
@@ -17,12 +17,12 @@ use Rattle.dc_config.specs.declared.error.ConfigError.{ConfigError}
 use Rattle.dc_config.specs.declared.error.ConfigError.TheVariants as config
 use Rattle.dc_config.specs.declared.error.Variable.{Variable as Named}
 use Rattle.dc_serve.specs.Serve as serve
-use Rattle.dc_serve.specs.Serve.{Ran, Ends, Justified, IfServed, each_passes, passes}
+use Rattle.dc_serve.specs.Serve.{Ran, Ends, Justified, each_passes, passes}
 use Rattle.dc_serve.specs.declared.Served.{Served}
 use Rattle.dc_serve.specs.declared.Served.TheVariants as served
 use Rattle.dc_core.specs.Running.{Running, core_machine}
 use Rattle.dc_commands.specs.Replay.{cache_of}
-use Rattle.dc_commands.specs.Serving.{machine_after, at_event, machine_passes, last_passes, Closes, Serving, IsSession, status_from, refused_by}
+use Rattle.dc_commands.specs.Serving.{machine_after, at_event, machine_passes, last_passes, Closes, Serving, IsSession, Refused, Unserved, status_from, refused_by}
 use Rattle.dc_commands.specs.declared.status.Status.{Status}
 use Rattle.dc_commands.specs.declared.status.Status.TheVariants.{Done, BadVariable, WorldFault}
 
@@ -74,13 +74,13 @@ run_state c seed es =
 
 -- How serving ends
 
-closes : (answer : Served) (count limit : ℕ) (used_up : Type 0) (broken : ℕ → Type 0) (before now : ℕ)
-    → Ends answer false count limit → Justified answer used_up broken before now → Closes (status_from answer) count limit used_up broken
-closes served.Finished count limit used_up broken before now ends just = let never : false ≡ true = ends.0 in cc
-closes served.Spent count limit used_up broken before now ends just = ends.1
-closes served.Ended count limit used_up broken before now ends just = (ends.1, just)
-closes served.Failed count limit used_up broken before now ends just = ends.1
-closes (served.Bad k) count limit used_up broken before now ends just = (ends.1, just)
+closes : (answer : Served) (count limit : ℕ) (used_up : Type 0) (broken : ℕ → Type 0)
+    → Ends answer false count limit → Justified answer used_up broken → Closes (status_from answer) count limit used_up broken
+closes served.Finished count limit used_up broken ends just = let never : false ≡ true = ends.0 in cc
+closes served.Spent count limit used_up broken ends just = ends.1
+closes served.Ended count limit used_up broken ends just = (ends.1, just)
+closes served.Failed count limit used_up broken ends just = ends.1
+closes (served.Bad k) count limit used_up broken ends just = (ends.1, just)
 
 last_is : (answer : Served) (count limit : ℕ) (m : Machine) → Ends answer false count limit → serve.last_passes answer (wake m) ≡ last_passes (status_from answer) m
 last_is served.Finished count limit m ends = let never : false ≡ true = ends.0 in cc
@@ -121,15 +121,15 @@ abbrev pub Follows : {W : Type 0} → (W → List Exchange → W → Type 0) →
 Follows {W} history = (a b c : W) (x : Exchange) (ys : List Exchange) → history a (x ∷ []) b → history b ys c → history a (x ∷ ys) c
 
 -- A world listened, and a core served its events.
-pub serves : {W : Type 0} (history : W → List Exchange → W → Type 0) (used_up : W → Type 0) (broken : W → ℕ → Type 0) (faults : W → ℕ)
+pub serves : {W : Type 0} (history : W → List Exchange → W → Type 0) (used_up : W → Type 0) (broken : W → ℕ → Type 0)
     (old mid new : W) (c : Config) (seed : List ℕ) (drawn : Drawn) (start core : Running) (limit : ℕ) (answer : Served) (status : Status) (events : List Event)
     → Follows history → history old (listened c.ip c.ipsend true ∷ []) mid
     → drawn ≡ record { seed = seed; given = 0 } → start ≡ core_opening c
     → history mid (passes core_machine (draws_of drawn.seed) drawn.given start events answer) new
     → Ran core_machine (draws_of drawn.seed) drawn.given start core limit events answer
-    → Justified answer (used_up new) (broken new) (faults mid) (faults new) → status ≡ status_from answer
+    → Justified answer (used_up new) (broken new) → status ≡ status_from answer
     → Serving history used_up broken old new c seed limit status core
-serves history used_up broken faults old mid new c seed drawn start core limit answer status events follows listening words opened passed ran just ended =
+serves history used_up broken old mid new c seed drawn start core limit answer status events follows listening words opened passed ran just ended =
     let r = ran_begun c seed drawn start core limit answer events words opened ran in
     let h = passed_begun history mid new c seed drawn start answer events words opened passed in
     let all = follows old mid new (listened c.ip c.ipsend true) _ listening (subst (λ l. history mid l new) (serving_is c seed events answer (length events) limit r.ends) h) in
@@ -138,7 +138,7 @@ serves history used_up broken faults old mid new c seed drawn start core limit a
       bounded = r.bounded;
       passed = all;
       core_is = r.state ∙ run_state c seed events;
-      closes = closes answer (length events) limit (used_up new) (broken new) (faults mid) (faults new) r.ends just;
+      closes = closes answer (length events) limit (used_up new) (broken new) r.ends just;
     })
 
 -- How the world answered `listen`
@@ -151,9 +151,13 @@ pub went_wrong : {T E : Type 0} (r : Result T E) → is_err r ≡ true → is_ok
 went_wrong (Ok x) e = cc
 went_wrong (Err x) e = refl
 
-pub on_ok : {T E : Type 0} (r : Result T E) (P : Type 0) → is_err r ≡ false → OnOk r P → P
-on_ok (Ok x) P e p = p
-on_ok (Err x) P e p = cc
+pub count_ok : {T E : Type 0} (r : Result T E) (n : ℕ) → is_err r ≡ false → count_by r n ≡ n
+count_ok (Ok x) n e = refl
+count_ok (Err x) n e = cc
+
+pub count_err : {T E : Type 0} (r : Result T E) (n : ℕ) → is_err r ≡ true → count_by r n ≡ counted n
+count_err (Ok x) n e = cc
+count_err (Err x) n e = refl
 
 -- Nothing was served where the world failed to listen.
 pub unserved : {W : Type 0} (history : W → List Exchange → W → Type 0) (used_up : W → Type 0) (broken : W → ℕ → Type 0) (old new : W) (configured : Config → Type 0)
@@ -164,13 +168,14 @@ unserved history used_up broken old new configured c taken left limit status cor
     subst (λ k. IsSession history used_up broken old new configured taken left limit status k) (sym none)
     (subst (λ s. IsSession history used_up broken old new configured taken left limit s None) (sym fault) (whole, (c, fits, passed)))
 
--- The world didn't fail behind the loop.
-pub served_fine : (answer : Served) (status : Status) (P : Type 0) → status ≡ status_from answer → status ≢ WorldFault → IfServed answer P → P
-served_fine served.Finished status P is other p = p
-served_fine served.Spent status P is other p = p
-served_fine served.Ended status P is other p = p
-served_fine served.Failed status P is other p = absurd (other is)
-served_fine (served.Bad k) status P is other p = p
+-- Nothing was served, and the world wasn't asked for anything.
+pub unheard : {W : Type 0} (history : W → List Exchange → W → Type 0) (used_up : W → Type 0) (broken : W → ℕ → Type 0) (old new : W) (configured : Config → Type 0)
+    (taken : List ℕ) (left : Option (List ℕ)) (limit : ℕ) (status known : Status) (core : Option Running)
+    → status ≡ known → core ≡ None → Refused known taken left → Unserved history old new configured known
+    → IsSession history used_up broken old new configured taken left limit status core
+unheard history used_up broken old new configured taken left limit status known core is none why passed =
+    subst (λ k. IsSession history used_up broken old new configured taken left limit status k) (sym none)
+    (subst (λ s. IsSession history used_up broken old new configured taken left limit s None) (sym is) (why, passed))
 
 -- Which variable is bad
 

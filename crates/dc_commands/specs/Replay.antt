@@ -1,12 +1,14 @@
 -- What replaying a script comes to.
-use Rattle.std.specs.Prelude.{◌≡◌, ℕ, ◌+◌, min, max, List, []}
+use Rattle.std.specs.Prelude.{◌≡◌, ℕ, ◌+◌, min, max, List, [], ◌++◌}
+use Rattle.std.specs.declared.option.Option.{Option}
+use Rattle.std.specs.Io.KnownBytes.{IsAtEnd}
 use Rattle.dc_model.specs.Cache.{Cache, empty}
 use Rattle.dc_model.specs.Event.{Event, Action}
 use Rattle.dc_machine.specs.Run.{seeded_run, actions_of}
 use Rattle.dc_event.specs.Told.{BeginsWith}
 use Rattle.dc_rules.specs.Settings.{rules_of}
 use Rattle.dc_rules.specs.declared.config.Config.{Config}
-use Rattle.dc_script.specs.Head.{HeadRead, behind, other}
+use Rattle.dc_script.specs.Head.{HeadRead, behind, other, head_of, MayFollow}
 use Rattle.dc_script.specs.Read.{line_event}
 use Rattle.dc_script.specs.Script.{said_from}
 use Rattle.dc_script.specs.Text.{text_of}
@@ -69,3 +71,15 @@ Keeps promised whole text (BadPermit f) = ⊥
 Keeps promised whole text FilesFault = ⊥
 Keeps promised whole text SeedShort = ⊥
 Keeps promised whole text WorldFault = ⊥
+
+-- What a replay did with its source and its sink: these bytes were taken and this text was written, and whatever may follow the bytes, the
+-- text is what was promised of them. It is done only at the end of the source. Where memory is refused, the sink is as it was.
+pub record Replayed {S K : Type 0} (took : S → List ℕ → S → Type 0) (left : S → Option (List ℕ)) (gained : K → List ℕ → K → Type 0) (source source' : S) (sink sink' : K)
+    (limit : ℕ) (status : Status) : Type 0 where
+  pub bytes : List ℕ
+  pub text : List ℕ
+  pub taken : took source bytes source'
+  pub written : gained sink text sink'
+  pub keeps : (tail : List ℕ) → MayFollow (left source') tail → Keeps (outcome limit (head_of (bytes ++ tail))) (whole_text (head_of bytes)) text status
+  pub end : status ≡ Done → IsAtEnd (left source')
+  pub unwritten : status ≡ NoMemory → sink' ≡ sink

@@ -1,5 +1,5 @@
 -- What serving comes to.
-use Rattle.std.specs.Prelude.{◌≡◌, ℕ, ◌<◌, true, false, List, [], ◌∷◌, ◌++◌, length, flat_map, All}
+use Rattle.std.specs.Prelude.{◌≡◌, ◌↔◌, ℕ, ◌<◌, Bool, true, false, List, [], ◌∷◌, ◌++◌, length, flat_map, All}
 use Rattle.std.specs.declared.option.Option.{Option}
 use Rattle.std.specs.declared.option.Option.TheVariants.{None, Some}
 use Rattle.std.specs.Io.KnownBytes.{IsAtEnd}
@@ -14,11 +14,13 @@ use Rattle.dc_event.specs.History.{Exchange, listened, asked, did, gave, ended, 
 use Rattle.dc_config.specs.Environment.{Environment}
 use Rattle.dc_config.specs.Tree.{Tree}
 use Rattle.dc_config.specs.Conf.{conf_of}
+use Rattle.dc_config.specs.Variables.{bad_variable}
+use Rattle.dc_config.specs.declared.error.Variable.{Variable as Named}
 use Rattle.dc_config.specs.declared.error.ConfigError.{ConfigError}
 use Rattle.dc_config.specs.declared.error.ConfigError.TheVariants as config
 use Rattle.dc_core.specs.Running.{Running}
 use Rattle.dc_commands.specs.Replay.{cache_of}
-use Rattle.dc_serve.specs.declared.Served.{Served}
+use Rattle.dc_serve.specs.declared.Served.{Served as Answer}
 use Rattle.dc_serve.specs.declared.Served.TheVariants as served
 use Rattle.dc_commands.specs.declared.serving.Seed.{Seed}
 use Rattle.dc_commands.specs.declared.serving.Seed.TheVariants.{Whole, Short, Failed}
@@ -140,27 +142,37 @@ IsSession history used_up broken old new configured taken left limit status None
 IsSession history used_up broken old new configured taken left limit status (Some core) =
     (c : Config) × configured c × (length taken ≡ 32) × Serving history used_up broken old new c taken limit status core
 
+-- What serving did with its source and its world: these bytes were taken, and this is the session. Where the files tell what they hold, the
+-- status fits the configuration. A bad variable is told exactly where there is one.
+pub record Served {S W : Type 0} (took : S → List ℕ → S → Type 0) (left : S → Option (List ℕ)) (history : W → List Exchange → W → Type 0) (used_up : W → Type 0) (broken : W → ℕ → Type 0)
+    (env : Environment) (tree : Option Tree) (source source' : S) (world world' : W) (limit : ℕ) (status : Status) (core : Option Running) : Type 0 where
+  pub bytes : List ℕ
+  pub taken : took source bytes source'
+  pub session : IsSession history used_up broken world world' (IsConfigured env tree) bytes (left source') limit status core
+  pub conf : (t : Tree) → tree ≡ Some t → FitsConf status (conf_of env t)
+  pub variable : (v : Named) → (status ≡ BadVariable v) ↔ (bad_variable env ≡ Some v)
+
 -- What taking a seed says of the bytes that were taken: they are the seed; or the source ended, or failed, before them.
 abbrev pub SeedStands : Seed → (taken : List ℕ) → (left : Option (List ℕ)) → Type 0
 SeedStands (Whole seed) taken left = (taken ≡ seed) × (length taken ≡ 32)
 SeedStands Short taken left = (length taken < 32) × IsAtEnd left
 SeedStands Failed taken left = length taken < 32
 
--- This holds where the source didn't fail.
-abbrev pub IfSeed : Seed → Type 0 → Type 0
-IfSeed (Whole seed) P = P
-IfSeed Short P = P
-IfSeed Failed P = Unit {0}
+-- Whether the source went well.
+abbrev pub well_seed : Seed → Bool
+well_seed (Whole seed) = true
+well_seed Short = true
+well_seed Failed = false
 
 -- The status behind the loop. The core is never finished.
-abbrev pub status_from : Served → Status
+abbrev pub status_from : Answer → Status
 status_from served.Finished = Done
 status_from served.Ended = Done
 status_from served.Spent = Spent
 status_from served.Failed = WorldFault
 status_from (served.Bad k) = BadScript k
 
--- A fault of files, source or world, each with a count that rose, or want of memory.
+-- A fault of files, source or world, or want of memory.
 abbrev pub IsFault : Status → Type 0
 IsFault FilesFault = Unit {0}
 IsFault ReadFault = Unit {0}

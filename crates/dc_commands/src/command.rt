@@ -1,18 +1,14 @@
 //! The top call: what the words of a command ask for is done.
-ghost use Rattle.std.specs.Prelude.{◌≡◌, ◌≢◌, ◌↔◌, ℕ, List, ◌++◌, Some};
+ghost use Rattle.std.specs.Prelude.{◌≡◌, ◌↔◌};
 ghost use Rattle.std.specs.declared.option.Option.{Option};
-ghost use Rattle.std.specs.Io.KnownBytes.{IsAtEnd};
-ghost use Rattle.dc_event.specs.Causes.{Rose};
-ghost use Rattle.dc_config.specs.Tree.{Tree};
-ghost use Rattle.dc_config.specs.Conf.{conf_of};
-ghost use Rattle.dc_config.specs.Variables.{bad_variable};
-ghost use Rattle.dc_config.specs.declared.error.Variable.{Variable as Named};
+ghost use Rattle.dc_event.specs.Causes.{Fares, count_where};
 ghost use Rattle.dc_core.specs.Running.{Running};
-ghost use Rattle.dc_script.specs.Head.{MayFollow, head_of};
 ghost use Rattle.dc_play.specs.Playing.{limit_of};
 ghost use Rattle.dc_commands.specs.Command.{command_of};
-ghost use Rattle.dc_commands.specs.Replay.{Keeps, outcome, whole_text};
-ghost use Rattle.dc_commands.specs.Serving.{IsSession, IsConfigured, FitsConf};
+ghost use Rattle.dc_commands.specs.Alone.{Alone};
+ghost use Rattle.dc_commands.specs.Faults.{fault_of, files_well, source_well, sink_well, world_well};
+ghost use Rattle.dc_commands.specs.Replay.{Replayed};
+ghost use Rattle.dc_commands.specs.Serving.{Served};
 
 use crate::replay::replay_command;
 use crate::serving::serve_command;
@@ -21,7 +17,7 @@ use dc_config::{Env, Files};
 use dc_event::{Sink, Source, World};
 use std::alloc::Global;
 
-/// What the words of a command ask for.
+/// What the words of a command and the environment ask for.
 #[derive(Clone, Copy, Debug, PartialEq, Eq)]
 pub enum Command {
     /// To serve clients.
@@ -33,10 +29,11 @@ pub enum Command {
 }
 
 impl Command {
-    /// What these words ask for.
-    pub fn of(words: &[String]) -> Command
-        ensures { result ≡ command_of words.now }
+    /// What these words and variables ask for.
+    pub fn of(words: &[String], env: &Env) -> Command
+        ensures { result ≡ command_of words.now env.now }
     {
+        let _ = env;
         match words.len() {
             0 => Command::Serve,
             1 if words[0].as_bytes() == b"replay".as_slice() => Command::Replay,
@@ -57,28 +54,22 @@ pub fn dnscache<F: Files, S: Source, K: Sink, W: World>(
     world: &mut W,
     turns: u64,
 ) -> Status
-    ensures usage { (result ≡ Status.Usage) ↔ (command_of words.now ≡ Command.Unknown) }
-    ensures idle { result ≡ Status.Usage → (files.new ≡ files.old) × (source.new ≡ source.old) × (sink.new ≡ sink.old) × (world.new ≡ world.old) }
-    ensures replayed { command_of words.now ≡ Command.Replay → (bytes : List ℕ) × ((text : List ℕ) × S.took source.old bytes source.new × K.gained sink.old text sink.new
-        × ((tail : List ℕ) → MayFollow (S.left source.new) tail → Keeps (outcome (limit_of turns) (head_of (bytes ++ tail))) (whole_text (head_of bytes)) text result)) }
-    ensures replay_alone { command_of words.now ≡ Command.Replay → (files.new ≡ files.old) × (world.new ≡ world.old) }
-    ensures replay_end { command_of words.now ≡ Command.Replay → result ≡ Status.Done → IsAtEnd (S.left source.new) }
-    ensures replay_memory { command_of words.now ≡ Command.Replay → result ≡ Status.NoMemory → sink.new ≡ sink.old }
-    ensures served { command_of words.now ≡ Command.Serve → (taken : List ℕ) × ((core : Option Running) × S.took source.old taken source.new
-        × IsSession W.history W.used_up W.broken world.old world.new (IsConfigured env.now (F.tree files.old)) taken (S.left source.new) (limit_of turns) result core) }
-    ensures conf { command_of words.now ≡ Command.Serve → (t : Tree) → F.tree files.old ≡ Some t → FitsConf result (conf_of env.now t) }
-    ensures variable { command_of words.now ≡ Command.Serve → (v : Named) → (result ≡ Status.BadVariable v) ↔ (bad_variable env.now ≡ Some v) }
-    ensures serve_alone { command_of words.now ≡ Command.Serve → sink.new ≡ sink.old }
-    ensures files_fault { result ≡ Status.FilesFault → Rose (F.faults files.old) (F.faults files.new) }
-    ensures read_fault { result ≡ Status.ReadFault → Rose (S.faults source.old) (S.faults source.new) }
-    ensures write_fault { result ≡ Status.WriteFault → Rose (K.faults sink.old) (K.faults sink.new) }
-    ensures world_fault { result ≡ Status.WorldFault → Rose (W.faults world.old) (W.faults world.new) }
-    ensures files_stay { result ≢ Status.FilesFault → F.faults files.new ≡ F.faults files.old }
-    ensures read_stays { result ≢ Status.ReadFault → result ≢ Status.WriteFault → S.faults source.new ≡ S.faults source.old }
-    ensures write_stays { result ≢ Status.WriteFault → K.faults sink.new ≡ K.faults sink.old }
-    ensures world_stays { result ≢ Status.WorldFault → W.faults world.new ≡ W.faults world.old }
+    ensures usage { (result ≡ Status.Usage) ↔ (command_of words.now env.now ≡ Command.Unknown) }
+    ensures alone { Alone (record {
+      files = files.new ≡ files.old;
+      source = source.new ≡ source.old;
+      sink = sink.new ≡ sink.old;
+      world = world.new ≡ world.old;
+    }) (command_of words.now env.now) }
+    ensures files_fare { Fares F.asked F.refused F.faults (files_well (fault_of result)) files.old files.new }
+    ensures source_fares { Fares S.took S.refused S.faults (source_well (fault_of result)) source.old source.new }
+    ensures sink_fares { Fares K.gained K.refused K.faults (sink_well (fault_of result)) sink.old sink.new }
+    ensures world_fares { W.faults world.new ≡ count_where (world_well (fault_of result)) (W.faults world.old) }
+    ensures served { command_of words.now env.now ≡ Command.Serve → (core : Option Running)
+        × Served S.took S.left W.history W.used_up W.broken env.now (F.tree files.old) source.old source.new world.old world.new (limit_of turns) result core }
+    ensures replayed { command_of words.now env.now ≡ Command.Replay → Replayed S.took S.left K.gained source.old source.new sink.old sink.new (limit_of turns) result }
 {
-    match Command::of(words) {
+    match Command::of(words, env) {
         Command::Serve => serve_command(alloc, env, files, source, world, turns).status,
         Command::Replay => replay_command(alloc, source, sink, turns),
         Command::Unknown => Status::Usage,

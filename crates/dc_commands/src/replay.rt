@@ -1,12 +1,11 @@
 //! Replaying a script: its actions, in the order in which they come, as text.
-ghost use Rattle.std.specs.Prelude.{◌≡◌, ◌≢◌, ℕ, List, ◌++◌, IfOk};
-ghost use Rattle.std.specs.Io.KnownBytes.{IsAtEnd};
+ghost use Rattle.std.specs.Prelude.{◌≡◌, IfOk};
 ghost use Rattle.dc_machine.specs.Run.{opening};
 ghost use Rattle.dc_rules.specs.Settings.{rules_of};
-ghost use Rattle.dc_event.specs.Causes.{Rose};
-ghost use Rattle.dc_script.specs.Head.{MayFollow, head_of};
+ghost use Rattle.dc_event.specs.Causes.{Fares};
 ghost use Rattle.dc_play.specs.Playing.{limit_of};
-ghost use Rattle.dc_commands.specs.Replay.{Keeps, outcome, whole_text, cache_of};
+ghost use Rattle.dc_commands.specs.Faults.{fault_of, source_well, sink_well};
+ghost use Rattle.dc_commands.specs.Replay.{Replayed, cache_of};
 
 use crate::status::Status;
 use dc_core::Core;
@@ -34,14 +33,9 @@ pub fn replay_command<S: Source, K: Sink>(
     sink: &mut K,
     turns: u64,
 ) -> Status
-    ensures told { (bytes : List ℕ) × ((text : List ℕ) × S.took source.old bytes source.new × K.gained sink.old text sink.new
-        × ((tail : List ℕ) → MayFollow (S.left source.new) tail → Keeps (outcome (limit_of turns) (head_of (bytes ++ tail))) (whole_text (head_of bytes)) text result)) }
-    ensures read { result ≡ Status.ReadFault → Rose (S.faults source.old) (S.faults source.new) }
-    ensures write { result ≡ Status.WriteFault → Rose (K.faults sink.old) (K.faults sink.new) }
-    ensures read_stays { result ≢ Status.ReadFault → result ≢ Status.WriteFault → S.faults source.new ≡ S.faults source.old }
-    ensures write_stays { result ≢ Status.WriteFault → K.faults sink.new ≡ K.faults sink.old }
-    ensures end { result ≡ Status.Done → IsAtEnd (S.left source.new) }
-    ensures memory { result ≡ Status.NoMemory → sink.new ≡ sink.old }
+    ensures replayed { Replayed S.took S.left K.gained source.old source.new sink.old sink.new (limit_of turns) result }
+    ensures source_fares { Fares S.took S.refused S.faults (source_well (fault_of result)) source.old source.new }
+    ensures sink_fares { Fares K.gained K.refused K.faults (sink_well (fault_of result)) sink.old sink.new }
 {
     let Ok(places) = Places::new(alloc) else {
         return Status::NoMemory;

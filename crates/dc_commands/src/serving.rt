@@ -1,15 +1,12 @@
 //! Serving clients.
-ghost use Rattle.std.specs.Prelude.{◌≡◌, ◌≢◌, ◌≤◌, ◌↔◌, ℕ, List, IfOk, Some, None};
-ghost use Rattle.dc_event.specs.Causes.{Rose};
-ghost use Rattle.dc_config.specs.Tree.{Tree};
-ghost use Rattle.dc_config.specs.Conf.{conf_of};
-ghost use Rattle.dc_config.specs.Variables.{bad_variable};
-ghost use Rattle.dc_config.specs.declared.error.Variable.{Variable as Named};
+ghost use Rattle.std.specs.Prelude.{◌≡◌, ℕ, List, IfOk, None};
+ghost use Rattle.dc_event.specs.Causes.{Fares, count_where};
 ghost use Rattle.dc_machine.specs.Run.{opening};
 ghost use Rattle.dc_rules.specs.Settings.{rules_of};
 ghost use Rattle.dc_play.specs.Playing.{limit_of};
 ghost use Rattle.dc_commands.specs.Replay.{cache_of};
-ghost use Rattle.dc_commands.specs.Serving.{IsSession, IsConfigured, FitsConf, SeedStands, IfSeed, status_from};
+ghost use Rattle.dc_commands.specs.Faults.{fault_of, files_well, source_well, world_well};
+ghost use Rattle.dc_commands.specs.Serving.{Served, SeedStands, well_seed, status_from};
 
 use crate::replay::core_of;
 use crate::status::Status;
@@ -19,7 +16,7 @@ use dc_draws::Draws;
 use dc_event::{Inbox, Source, Taken, World};
 use dc_ring::ArenaStore;
 use dc_rules::Config;
-use dc_serve::{Served, serve};
+use dc_serve::{Served as Ended, serve};
 use std::alloc::{AllocError, Global};
 
 /// How many bytes a seed has.
@@ -56,9 +53,7 @@ enum Seed {
 /// Takes the seed off the front of a source.
 fn take_seed<S: Source>(source: &mut S) -> Seed
     ensures took { (bytes : List ℕ) × S.took source.old bytes source.new × SeedStands result bytes (S.left source.new) }
-    ensures later { S.faults source.old ≤ S.faults source.new }
-    ensures stays { IfSeed result (S.faults source.new ≡ S.faults source.old) }
-    ensures failed { result ≡ Seed.Failed → Rose (S.faults source.old) (S.faults source.new) }
+    ensures fares { Fares S.took S.refused S.faults (well_seed result) source.old source.new }
 {
     let mut seed = [0; SEED];
     let mut count = 0;
@@ -73,14 +68,14 @@ fn take_seed<S: Source>(source: &mut S) -> Seed
 }
 
 /// The status behind the loop.
-fn status_of(served: Served) -> Status
-    ensures { result ≡ status_from served }
+fn status_of(ended: Ended) -> Status
+    ensures { result ≡ status_from ended }
 {
-    match served {
-        Served::Finished | Served::Ended => Status::Done,
-        Served::Spent => Status::Spent,
-        Served::Failed => Status::WorldFault,
-        Served::Bad { line } => Status::BadScript(line),
+    match ended {
+        Ended::Finished | Ended::Ended => Status::Done,
+        Ended::Spent => Status::Spent,
+        Ended::Failed => Status::WorldFault,
+        Ended::Bad { line } => Status::BadScript(line),
     }
 }
 
@@ -106,17 +101,11 @@ pub fn serve_command<F: Files, S: Source, W: World>(
     world: &mut W,
     turns: u64,
 ) -> Session
-    ensures told { (taken : List ℕ) × S.took source.old taken source.new
-        × IsSession W.history W.used_up W.broken world.old world.new (IsConfigured env.now (F.tree files.old)) taken (S.left source.new) (limit_of turns) result.status result.core }
-    ensures conf { (t : Tree) → F.tree files.old ≡ Some t → FitsConf result.status (conf_of env.now t) }
-    ensures variable { (v : Named) → (result.status ≡ Status.BadVariable v) ↔ (bad_variable env.now ≡ Some v) }
+    ensures served { Served S.took S.left W.history W.used_up W.broken env.now (F.tree files.old) source.old source.new world.old world.new (limit_of turns) result.status result.core }
     ensures files { F.tree files.new ≡ F.tree files.old }
-    ensures files_fault { result.status ≡ Status.FilesFault → Rose (F.faults files.old) (F.faults files.new) }
-    ensures read_fault { result.status ≡ Status.ReadFault → Rose (S.faults source.old) (S.faults source.new) }
-    ensures world_fault { result.status ≡ Status.WorldFault → Rose (W.faults world.old) (W.faults world.new) }
-    ensures files_stay { result.status ≢ Status.FilesFault → F.faults files.new ≡ F.faults files.old }
-    ensures read_stays { result.status ≢ Status.ReadFault → S.faults source.new ≡ S.faults source.old }
-    ensures world_stays { result.status ≢ Status.WorldFault → W.faults world.new ≡ W.faults world.old }
+    ensures files_fare { Fares F.asked F.refused F.faults (files_well (fault_of result.status)) files.old files.new }
+    ensures source_fares { Fares S.took S.refused S.faults (source_well (fault_of result.status)) source.old source.new }
+    ensures world_fares { W.faults world.new ≡ count_where (world_well (fault_of result.status)) (W.faults world.old) }
 {
     let config = match load(alloc, env, files) {
         Ok(config) => config,
@@ -136,9 +125,9 @@ pub fn serve_command<F: Files, S: Source, W: World>(
         return Session::refused(Status::WorldFault);
     }
     let mut draws = Draws::from_seed(seed);
-    let served = serve(world, &mut core, &mut draws, &mut inbox, turns);
+    let ended = serve(world, &mut core, &mut draws, &mut inbox, turns);
     Session {
-        status: status_of(served),
+        status: status_of(ended),
         core: Some(core),
     }
 }

@@ -1,4 +1,4 @@
 pub mod Steps
 pub mod Order
 pub mod Zoned
-pub mod Fine
+pub mod Asking

@@ -1,12 +1,8 @@
 -- Answers, step by step.
-use Rattle.std.proofs.Common.{◌≡◌, ◌≢◌, ◌⊎◌, ◌↔◌, refl, sym, ap, ◌∙◌, subst, Option, Some, None, Result, Ok, Err, Bool, ℕ, List}
-use Rattle.dc_config.specs.Answered.{Refuses, Answers, IsPassing, and_then}
-use Rattle.dc_config.specs.Variables.{bad_by, variables_by}
-use Rattle.dc_config.specs.declared.error.Variable.{Variable}
-use Rattle.dc_config.specs.declared.error.Variable.TheVariants.{Ip, Ipsend, Cachesize}
+use Rattle.std.proofs.Common.{◌≡◌, sym, ap, ◌∙◌, subst, Result, Err}
+use Rattle.dc_config.specs.Answered.{Refuses, Answers, and_then}
 use Rattle.dc_config.specs.declared.error.ConfigError.{ConfigError}
 use Rattle.dc_config.specs.declared.error.ConfigError.TheVariants.{BadVariable, BadZone, NoRoot, BadPermit, FilesFault, NoMemory}
-use Rattle.dc_config.specs.declared.variables.Variables.{Variables}
 
 -- what refuses a step refuses all that follows
 pub refused : {T U : Type 0} (why : ConfigError) (defined : Result T ConfigError) (next : T → Result U ConfigError) → Refuses why defined → Refuses why (and_then next defined)

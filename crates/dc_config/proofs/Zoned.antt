@@ -1,18 +1,16 @@
 -- The zones and permissions of files, one after another.
-use Rattle.std.proofs.Common.{◌≡◌, ◌≢◌, ℕ, Bool, true, false, cond, not, List, [], ◌∷◌, ◌++◌, length, codes, refl, sym, ap, ◌∙◌, arith, Option, Some, None, Result, Ok, Err}
+use Rattle.std.proofs.Common.{◌≡◌, ℕ, true, false, cond, List, [], ◌++◌, codes, sym, ap, ◌∙◌, Option, Some, None, Ok, Err}
 use Rattle.dc_model.specs.Name.{Name, root}
-use Rattle.dc_model.specs.Rules.{Zones, ZoneRefusal, no_zones, add_zone, servers, read_servers, Permits, PermitRefusal, add_permit}
-use Rattle.dc_rules.specs.declared.config.Config.{Config}
+use Rattle.dc_model.specs.Rules.{Zones, ZoneRefusal, no_zones, add_zone, servers, read_servers, Permits, add_permit}
 use Rattle.dc_config.specs.Environment.{Environment}
 use Rattle.dc_config.specs.Tree.{Tree}
-use Rattle.dc_config.specs.Answered.{Refuses, and_then}
+use Rattle.dc_config.specs.Answered.{and_then}
 use Rattle.dc_config.specs.Folders.{is_shown, zone_named, zone_by, zone_added, with_zone_file, with_zone_files, has_server, rooted, zones_of, permit_added, with_permit_file, with_permit_files, permits_of, listing}
 use Rattle.dc_config.specs.Conf.{config_of, conf_with, conf_of}
 use Rattle.dc_config.specs.Variables.{variables_of}
 use Rattle.dc_config.specs.declared.variables.Variables.{Variables}
 use Rattle.dc_config.specs.declared.error.ConfigError.{ConfigError}
-use Rattle.dc_config.specs.declared.error.ConfigError.TheVariants.{BadZone, NoRoot, BadPermit}
-use Rattle.dc_config.proofs.Steps.{refused, refuses-along}
+use Rattle.dc_config.specs.declared.error.ConfigError.TheVariants.{BadZone, NoRoot}
 
 -- One zone file
 

@@ -1,7 +1,8 @@
 -- Files in memory.
-use Rattle.std.specs.Prelude.{ℕ, Bool, ◌==◌, if◌then◌else◌, nat_lt, List, [], ◌∷◌, length, map, filter_map, find, bytes_eq, String, Vec, Option, Some, None, option_map, string_bytes}
+use Rattle.std.specs.Prelude.{◌≡◌, ℕ, Bool, ◌==◌, if◌then◌else◌, nat_lt, List, [], ◌∷◌, length, ◌++◌, map, filter_map, find, bytes_eq, String, Vec, Option, Some, None, option_map, string_bytes, refl}
 use Rattle.std.specs.declared.alloc.Global.{Global}
 use Rattle.std.specs.List.{position_or_len, before_first, after_first}
+use Rattle.std.proofs.Common.{◌∙◌, sym, ap}
 use Rattle.dc_event.specs.Causes.{counted}
 use Rattle.dc_event.specs.Scripted.{is_among}
 use Rattle.dc_config.specs.Tree.{Tree}
@@ -56,3 +57,30 @@ fails_next d = is_among d.fails (counted d.calls)
 -- Behind one more call.
 abbrev pub called : Drawer → Drawer
 called d = record { entries = d.entries; fails = d.fails; calls = counted d.calls; faults = if fails_next d then counted d.faults else d.faults }
+
+-- Behind one more call that went well, and behind one that failed.
+
+abbrev pub answered : Drawer → Drawer
+answered d = record d { calls = counted d.calls }
+
+abbrev pub refused : Drawer → Drawer
+refused d = record d { calls = counted d.calls; faults = counted d.faults }
+
+-- Behind as many calls that went well as there are paths.
+abbrev pub answered_all : List (List ℕ) → Drawer → Drawer
+answered_all [] d = d
+answered_all (path ∷ paths) d = answered_all paths (answered d)
+
+pub answered_both : (a : Drawer) (xs ys : List (List ℕ)) → answered_all (xs ++ ys) a ≡ answered_all ys (answered_all xs a)
+answered_both a [] ys = refl
+answered_both a (x ∷ xs) ys = answered_both (answered a) xs ys
+
+-- These paths were asked for between the two.
+abbrev pub Asked : Drawer → List (List ℕ) → Drawer → Type 0
+Asked old paths new = new ≡ answered_all paths old
+
+pub Asked-none : (a : Drawer) → Asked a [] a
+Asked-none a = refl
+
+pub Asked-both : (a b c : Drawer) (xs ys : List (List ℕ)) → Asked a xs b → Asked b ys c → Asked a (xs ++ ys) c
+Asked-both a b c xs ys p q = q ∙ ap (answered_all ys) p ∙ sym (answered_both a xs ys)

@@ -5,5 +5,6 @@ pub mod Told
 pub mod Answered
 pub mod Variables
 pub mod Folders
+pub mod Asked
 pub mod Conf
 pub mod Kept

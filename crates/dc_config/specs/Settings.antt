@@ -1,5 +1,5 @@
 -- The variables that the fields of `Env` hold.
-use Rattle.std.specs.Prelude.{ℕ, ◌≤◌, List, map, string_bytes, vec_capacity}
+use Rattle.std.specs.Prelude.{◌≤◌, map, string_bytes, vec_capacity}
 use Rattle.dc_config.specs.Environment.{Environment, Setting}
 use Rattle.dc_config.specs.declared.env.Setting.{Setting as Kept}
 use Rattle.dc_config.specs.declared.env.Env.TheInside.{Inside}

@@ -1,10 +1,11 @@
 //! The folders that are read: `servers` and `ip`.
-ghost use Rattle.std.specs.Prelude.{◌≡◌, ◌≢◌, ◌≤◌, ◌++◌, Some, IfOk, IfErr, codes, string_bytes};
+ghost use Rattle.std.specs.Prelude.{◌≡◌, ◌≢◌, [], ◌∷◌, ◌++◌, Some, IfOk, IfErr, codes, string_bytes};
 ghost use Rattle.dc_model.specs.Name.{root};
 ghost use Rattle.dc_model.specs.Rules.{servers};
-ghost use Rattle.dc_event.specs.Causes.{Rose};
+ghost use Rattle.dc_event.specs.Causes.{Fares};
 ghost use Rattle.dc_config.specs.Tree.{Tree};
 ghost use Rattle.dc_config.specs.Answered.{Answers, Leaves, IsPassing};
+ghost use Rattle.dc_config.specs.Asked.{well, path_of, paths_of, AskedZones};
 ghost use Rattle.dc_config.specs.Folders as defined;
 ghost use Rattle.dc_config.specs.declared.error.Variable.{Variable as Named};
 
@@ -32,9 +33,8 @@ fn names_in<F: Files>(
     ensures passing { IfErr result IsPassing }
     ensures named { (v : Named) → result ≢ Err (ConfigError.BadVariable v) }
     ensures same { F.tree files.new ≡ F.tree files.old }
-    ensures later { F.faults files.old ≤ F.faults files.new }
-    ensures stays { result ≢ Err ConfigError.FilesFault → F.faults files.new ≡ F.faults files.old }
-    ensures failed { result ≡ Err ConfigError.FilesFault → Rose (F.faults files.old) (F.faults files.new) }
+    ensures asked { IfOk result (λ _. F.asked files.old (folder.now ∷ []) files.new) }
+    ensures fares { Fares F.asked F.refused F.faults (well result) files.old files.new }
 {
     match files.list(alloc, folder) {
         Listed::Names(names) => Ok(sorted(names)?),
@@ -83,9 +83,8 @@ fn add_zone_file<F: Files>(
     ensures zones { (t : Tree) → F.tree files.old ≡ Some t → Leaves result zones.new (defined.with_zone_file t file zones.old) }
     ensures named { (v : Named) → result ≢ Err (ConfigError.BadVariable v) }
     ensures same { F.tree files.new ≡ F.tree files.old }
-    ensures later { F.faults files.old ≤ F.faults files.new }
-    ensures stays { result ≢ Err ConfigError.FilesFault → F.faults files.new ≡ F.faults files.old }
-    ensures failed { result ≡ Err ConfigError.FilesFault → Rose (F.faults files.old) (F.faults files.new) }
+    ensures asked { IfOk result (λ _. F.asked files.old (path_of file) files.new) }
+    ensures fares { Fares F.asked F.refused F.faults (well result) files.old files.new }
 {
     if !is_shown(&file) {
         return Ok(());
@@ -115,9 +114,8 @@ fn add_zone_files<F: Files>(
     ensures zones { (t : Tree) → F.tree files.old ≡ Some t → Leaves result zones.new (defined.with_zone_files t names.items zones.old) }
     ensures named { (v : Named) → result ≢ Err (ConfigError.BadVariable v) }
     ensures same { F.tree files.new ≡ F.tree files.old }
-    ensures later { F.faults files.old ≤ F.faults files.new }
-    ensures stays { result ≢ Err ConfigError.FilesFault → F.faults files.new ≡ F.faults files.old }
-    ensures failed { result ≡ Err ConfigError.FilesFault → Rose (F.faults files.old) (F.faults files.new) }
+    ensures asked { IfOk result (λ _. F.asked files.old (paths_of names.items) files.new) }
+    ensures fares { Fares F.asked F.refused F.faults (well result) files.old files.new }
 {
     let mut rest = names.into_iter();
     while let Some(file) = rest.next() {
@@ -153,9 +151,8 @@ pub(crate) fn zones_of<F: Files>(alloc: Global, files: &mut F) -> Result<Zones, 
     ensures zones { (t : Tree) → F.tree files.old ≡ Some t → Answers result (defined.zones_of t) }
     ensures named { (v : Named) → result ≢ Err (ConfigError.BadVariable v) }
     ensures same { F.tree files.new ≡ F.tree files.old }
-    ensures later { F.faults files.old ≤ F.faults files.new }
-    ensures stays { result ≢ Err ConfigError.FilesFault → F.faults files.new ≡ F.faults files.old }
-    ensures failed { result ≡ Err ConfigError.FilesFault → Rose (F.faults files.old) (F.faults files.new) }
+    ensures asked { IfOk result (λ _. AskedZones F.tree F.asked [] files.old files.new) }
+    ensures fares { Fares F.asked F.refused F.faults (well result) files.old files.new }
 {
     let names = names_in(alloc, files, "servers")?;
     let mut zones = Zones::new(alloc)?;
@@ -199,9 +196,8 @@ pub(crate) fn permit_of<F: Files>(alloc: Global, files: &mut F) -> Result<Permit
     ensures permit { (t : Tree) → F.tree files.old ≡ Some t → Answers result (defined.permits_of t) }
     ensures named { (v : Named) → result ≢ Err (ConfigError.BadVariable v) }
     ensures same { F.tree files.new ≡ F.tree files.old }
-    ensures later { F.faults files.old ≤ F.faults files.new }
-    ensures stays { result ≢ Err ConfigError.FilesFault → F.faults files.new ≡ F.faults files.old }
-    ensures failed { result ≡ Err ConfigError.FilesFault → Rose (F.faults files.old) (F.faults files.new) }
+    ensures asked { IfOk result (λ _. F.asked files.old (codes "ip" ∷ []) files.new) }
+    ensures fares { Fares F.asked F.refused F.faults (well result) files.old files.new }
 {
     let names = names_in(alloc, files, "ip")?;
     let mut permit = Permit::new(alloc)?;

@@ -1,6 +1,7 @@
 //! Files of the system.
-ghost use Rattle.std.specs.Prelude.{◌≡◌, ◌≤◌, ℕ, None, Option};
-ghost use Rattle.dc_event.specs.Causes.{Rose};
+ghost use Rattle.std.specs.Prelude.{◌≡◌, ℕ, None, Option, refl};
+ghost use Rattle.std.proofs.Common.{◌∙◌};
+ghost use Rattle.dc_event.specs.Causes.{counted};
 
 use crate::{FileName, FileRead, Files, Listed};
 use std::alloc::Global;
@@ -38,8 +39,7 @@ impl<R> HostFiles<R> {
 
     /// Counts a fault.
     fn fail(&mut self)
-        ensures later { self.old ≤ self.new }
-        ensures rose { Rose self.old self.new }
+        ensures { self.new ≡ counted self.old }
     {
         self.faults = self.faults.saturating_add(1);
     }
@@ -72,6 +72,10 @@ impl<R: FileSystem + Alloc + Clone + Drop> Files for HostFiles<R> {
     ghost tree = { λ _. None };
 
     ghost faults = { λ s. s };
+
+    ghost asked = { λ a paths b. b ≡ a };
+
+    ghost refused = { λ a b. b ≡ counted a };
 
     fn list(&mut self, alloc: Global, folder: &str) -> Listed {
         match names_in(&self.rt, alloc, folder) {
@@ -108,4 +112,8 @@ impl<R: FileSystem + Alloc + Clone + Drop> Files for HostFiles<R> {
     fn faults(&self) -> u64 {
         self.faults
     }
+
+    ghost asked_none = { λ a. refl };
+
+    ghost asked_both = { λ a b c xs ys p q. q ∙ p };
 }

@@ -1,9 +1,9 @@
 //! Files in memory.
-ghost use Rattle.std.specs.Prelude.{◌≡◌, ◌≢◌, ℕ, ◌≤◌, ◌↔◌, false, [], IfOk, IsTrue, Option, Some};
+ghost use Rattle.std.specs.Prelude.{◌≡◌, ◌≢◌, ℕ, ◌↔◌, [], ◌∷◌, IfOk, IsTrue, Option, Some, refl};
 ghost use Rattle.std.specs.Option.{option_copied};
-ghost use Rattle.dc_event.specs.Causes.{Rose};
+ghost use Rattle.std.proofs.Common.{◌∙◌};
 ghost use Rattle.dc_config.specs.Tree.{Tree};
-ghost use Rattle.dc_config.specs.Told.{IsListing, IsReading, IfListed, IfRead};
+ghost use Rattle.dc_config.specs.Told.{IsListing, IsReading, count_listed, count_read, IfListed, IfRead, IfListFailed, IfReadFailed};
 ghost use Rattle.dc_config.specs.Kept as kept;
 
 use crate::{FileName, FileRead, Files, Listed, NoMemory};
@@ -110,8 +110,6 @@ impl MemoryFiles {
     fn is_failing(&mut self) -> bool
         ensures fails { result ≡ kept.fails_next self.old }
         ensures state { self.new ≡ kept.called self.old }
-        ensures later { self.old.faults ≤ self.new.faults }
-        ensures stays { result ≡ false → self.new.faults ≡ self.old.faults }
     {
         self.calls = self.calls.saturating_add(1);
         if self.fails.contains(&self.calls) {
@@ -127,12 +125,16 @@ impl Files for MemoryFiles {
 
     ghost faults = { λ s. s.faults };
 
+    ghost asked = { kept.Asked };
+
+    ghost refused = { λ a b. b ≡ kept.refused a };
+
     fn list(&mut self, alloc: Global, folder: &str) -> Listed
         ensures same { Some (kept.tree_of self.new.entries) ≡ Some (kept.tree_of self.old.entries) }
         ensures names { (t : Tree) → Some (kept.tree_of self.old.entries) ≡ Some t → IsListing result (t.names folder.now) }
-        ensures later { self.old.faults ≤ self.new.faults }
-        ensures stays { IfListed result (self.new.faults ≡ self.old.faults) }
-        ensures failed { result ≡ Listed.Failed → Rose self.old.faults self.new.faults }
+        ensures asked { IfListed result (kept.Asked self.old (folder.now ∷ []) self.new) }
+        ensures count { self.new.faults ≡ count_listed result self.old.faults }
+        ensures failed { IfListFailed result (self.new ≡ kept.refused self.old) }
         ensures fails { (result ≡ Listed.Failed) ↔ IsTrue (kept.fails_next self.old) }
         ensures state { self.new ≡ kept.called self.old }
     {
@@ -145,9 +147,9 @@ impl Files for MemoryFiles {
     fn read(&mut self, alloc: Global, path: &str) -> FileRead
         ensures same { Some (kept.tree_of self.new.entries) ≡ Some (kept.tree_of self.old.entries) }
         ensures bytes { (t : Tree) → Some (kept.tree_of self.old.entries) ≡ Some t → IsReading result (t.bytes path.now) }
-        ensures later { self.old.faults ≤ self.new.faults }
-        ensures stays { IfRead result (self.new.faults ≡ self.old.faults) }
-        ensures failed { result ≡ FileRead.Failed → Rose self.old.faults self.new.faults }
+        ensures asked { IfRead result (kept.Asked self.old (path.now ∷ []) self.new) }
+        ensures count { self.new.faults ≡ count_read result self.old.faults }
+        ensures failed { IfReadFailed result (self.new ≡ kept.refused self.old) }
         ensures fails { (result ≡ FileRead.Failed) ↔ IsTrue (kept.fails_next self.old) }
         ensures state { self.new ≡ kept.called self.old }
     {
@@ -160,6 +162,10 @@ impl Files for MemoryFiles {
     fn faults(&self) -> u64 {
         self.faults
     }
+
+    ghost asked_none = { kept.Asked-none };
+
+    ghost asked_both = { kept.Asked-both };
 }
 
 /// Files in memory that never fail. Folders are as those of `MemoryFiles`.
@@ -191,12 +197,16 @@ impl Files for QuietFiles {
 
     ghost faults = { λ _. 0 };
 
+    ghost asked = { λ a paths b. b ≡ a };
+
+    ghost refused = { λ a b. ⊥ };
+
     fn list(&mut self, alloc: Global, folder: &str) -> Listed
         ensures same { Some (kept.tree_of self.new) ≡ Some (kept.tree_of self.old) }
         ensures names { (t : Tree) → Some (kept.tree_of self.old) ≡ Some t → IsListing result (t.names folder.now) }
-        ensures later { 0 ≤ 0 }
-        ensures stays { IfListed result (◌≡◌ {A = ℕ} 0 0) }
-        ensures failed { result ≡ Listed.Failed → Rose 0 0 }
+        ensures asked { IfListed result (self.new ≡ self.old) }
+        ensures count { 0 ≡ count_listed result 0 }
+        ensures failed { IfListFailed result ⊥ }
         ensures unchanged { self.new ≡ self.old }
     {
         list_of(alloc, &self.files, folder)
@@ -205,9 +215,9 @@ impl Files for QuietFiles {
     fn read(&mut self, alloc: Global, path: &str) -> FileRead
         ensures same { Some (kept.tree_of self.new) ≡ Some (kept.tree_of self.old) }
         ensures bytes { (t : Tree) → Some (kept.tree_of self.old) ≡ Some t → IsReading result (t.bytes path.now) }
-        ensures later { 0 ≤ 0 }
-        ensures stays { IfRead result (◌≡◌ {A = ℕ} 0 0) }
-        ensures failed { result ≡ FileRead.Failed → Rose 0 0 }
+        ensures asked { IfRead result (self.new ≡ self.old) }
+        ensures count { 0 ≡ count_read result 0 }
+        ensures failed { IfReadFailed result ⊥ }
         ensures unchanged { self.new ≡ self.old }
     {
         read_of(alloc, &self.files, path)
@@ -216,4 +226,8 @@ impl Files for QuietFiles {
     fn faults(&self) -> u64 {
         0
     }
+
+    ghost asked_none = { λ a. refl };
+
+    ghost asked_both = { λ a b c xs ys p q. q ∙ p };
 }

@@ -2,14 +2,15 @@
 ghost use Rattle.std.specs.Prelude.{◌≡◌, length, IfOk};
 
 use crate::{
-    ConfigError, Env, FileRead, Files, HostFiles, Listed, MemoryFiles, NoMemory, QuietFiles,
-    Variable, first_bad, load,
+    ConfigError, Env, FileName, FileRead, Files, HostFiles, Listed, MemoryFiles, NoMemory,
+    QuietFiles, Variable, first_bad, load,
 };
 use dc_name::Name;
 use dc_rules::Config;
 use std::alloc::Global;
+use std::os::unix::fs::symlink;
 use std::test::Fail;
-use std::{env, fs, process};
+use std::{env, fs, io, process};
 
 /// An environment of three variables.
 fn env_of(alloc: Global, settings: [(&str, &str); 3]) -> Result<Env, NoMemory>
@@ -200,38 +201,82 @@ fn below(alloc: Global, folder: &str, path: &str) -> Result<String, NoMemory> {
     format!(in alloc; "{folder}/{path}")
 }
 
-/// The folder is a new one in the folder for what is temporary, and is removed where all was read.
+/// A new folder in the folder for what is temporary, with an empty folder `servers`.
+fn made_folder(rt: &HostRuntime, name: &str) -> io::Result<String> {
+    let alloc = rt.alloc();
+    let parent = env::temp_dir(rt)?;
+    let name = format!(in alloc; "dc_config_{name}_{}", process::id(rt.process()))?;
+    let folder = below(alloc, parent.as_str(), name.as_str())?;
+    fs::create_dir_all(rt, below(alloc, folder.as_str(), "servers")?.as_str())?;
+    Ok(folder)
+}
+
+/// Whether these are the two names, in any order.
+fn are_two(names: &[FileName], first: &str, second: &str) -> bool {
+    match names {
+        [a, b] => {
+            (a.text() == first && b.text() == second) || (a.text() == second && b.text() == first)
+        }
+        _ => false,
+    }
+}
+
+/// Whether a file was read, with these bytes.
+fn is_read(answer: &FileRead, wanted: &[u8]) -> bool {
+    match answer {
+        FileRead::Bytes(bytes) => bytes.as_slice() == wanted,
+        _ => false,
+    }
+}
+
 #[test]
 fn real_folders_are_read(rt: HostRuntime) -> Result<(), Fail> {
     let alloc = rt.alloc();
-    let parent = env::temp_dir(&rt)?;
-    let name = format!(in alloc; "dc_config_test_{}", process::id(rt.process()))?;
-    let folder = below(alloc, parent.as_str(), name.as_str())?;
+    let folder = made_folder(&rt, "read")?;
     let servers = below(alloc, folder.as_str(), "servers")?;
     let root = below(alloc, servers.as_str(), "@")?;
-    let long = below(alloc, folder.as_str(), "long")?;
-    fs::create_dir_all(&rt, servers.as_str())?;
-    fs::write(&rt, root.as_str(), b"198.51.100.1\n")?;
-    fs::write(&rt, long.as_str(), vec![in alloc; 0u8; 1000001]?.as_slice())?;
+    let com = below(alloc, servers.as_str(), "com")?;
+    let absent = below(alloc, servers.as_str(), "net")?;
     let mut files = HostFiles::new(rt.clone()?);
-    match files.list(alloc, servers.as_str()) {
-        Listed::Names(names) => {
-            assert!(rt; names.len() == 1);
-            assert!(rt; names[0].text() == "@");
-        }
-        _ => panic!(rt; "no names"),
-    }
-    match files.read(alloc, root.as_str()) {
-        FileRead::Bytes(bytes) => assert!(rt; bytes.as_slice() == b"198.51.100.1\n".as_slice()),
-        _ => panic!(rt; "no bytes"),
-    }
-    let absent = below(alloc, servers.as_str(), "com")?;
+    assert!(rt;
+        matches!(files.list(alloc, servers.as_str()), Listed::Names(names) if names.is_empty())
+    );
+    fs::write(&rt, root.as_str(), b"198.51.100.1\n")?;
+    let most = vec![in alloc; b'1'; 1000000]?;
+    fs::write(&rt, com.as_str(), most.as_slice())?;
+    assert!(rt;
+        matches!(files.list(alloc, servers.as_str()), Listed::Names(names) if are_two(&names, "@", "com"))
+    );
+    assert!(rt; is_read(&files.read(alloc, root.as_str()), b"198.51.100.1\n"));
+    assert!(rt; is_read(&files.read(alloc, com.as_str()), &most));
     assert!(rt; matches!(files.list(alloc, absent.as_str()), Listed::Absent));
     assert!(rt; matches!(files.read(alloc, absent.as_str()), FileRead::Absent));
     assert!(rt; files.faults() == 0);
-    assert!(rt; matches!(files.read(alloc, long.as_str()), FileRead::Failed));
-    assert!(rt; matches!(files.read(alloc, servers.as_str()), FileRead::Failed));
-    assert!(rt; files.faults() == 2);
+    fs::remove_dir_all(&rt, folder.as_str())?;
+    Ok(())
+}
+
+/// A folder that leads to itself can't be read, by no user.
+#[test]
+fn real_faults_are_counted(rt: HostRuntime) -> Result<(), Fail> {
+    let alloc = rt.alloc();
+    let folder = made_folder(&rt, "faults")?;
+    let servers = below(alloc, folder.as_str(), "servers")?;
+    let circle = below(alloc, folder.as_str(), "circle")?;
+    symlink(&rt, "circle", circle.as_str())?;
+    let long = below(alloc, folder.as_str(), "long")?;
+    fs::write(&rt, long.as_str(), vec![in alloc; 0u8; 1000001]?.as_slice())?;
+    let behind = below(alloc, long.as_str(), "@")?;
+    let mut strange = Vec::from_slice(alloc, servers.as_bytes())?;
+    strange.extend_from_slice(b"/com\xff")?;
+    assert!(rt; os::mkdir(&strange) == 0);
+    let mut files = HostFiles::new(rt.clone()?);
+    for (place, path) in [&circle, &long, &behind, &servers].into_iter().enumerate() {
+        assert!(rt; matches!(files.list(alloc, path.as_str()), Listed::Failed));
+        assert!(rt; matches!(files.read(alloc, path.as_str()), FileRead::Failed));
+        assert!(rt; files.faults() == 2 * place as u64 + 2);
+    }
+    assert!(rt; os::rmdir(&strange) == 0);
     fs::remove_dir_all(&rt, folder.as_str())?;
     Ok(())
 }

@@ -45,15 +45,6 @@ abbrev pub put_gives : Shelf → ℕ → Put
 put_gives s count =
     if (s.room - length s.bytes == 0) || is_among s.fails (counted s.calls) then put.Failed else put.Taken (min count (s.room - length s.bytes))
 
--- The count of faults behind a call of `take`, and behind one of `put`.
-abbrev pub faults_taken : Taken → ℕ → ℕ
-faults_taken (taken.Bytes n) faults = faults
-faults_taken taken.Failed faults = counted faults
-
-abbrev pub faults_put : Put → ℕ → ℕ
-faults_put (put.Taken n) faults = faults
-faults_put put.Failed faults = counted faults
-
 -- These bytes were taken between the two.
 pub record Wound (old : Reel) (bytes : List ℕ) (new : Reel) : Type 0 where
   pub moved : Moved (tape_of old) bytes (tape_of new)

@@ -1,5 +1,6 @@
 //! Sources and sinks over a reader or a writer of std.
 ghost use Rattle.std.specs.Prelude.{◌≡◌, ℕ, List, [], ◌++◌};
+ghost use Rattle.dc_event.specs.Causes.{counted};
 ghost use Rattle.std.specs.Io.KnownBytes.{Consumes, Appends};
 ghost use Rattle.dc_event.specs.Known.{Consumes-none, Consumes-both, Appends-none, Appends-both};
 
@@ -39,6 +40,8 @@ impl<R: Read> Source for ReaderSource<R> {
     ghost left = { λ s. R.remaining s.inner };
 
     ghost faults = { λ s. s.faults };
+
+    ghost refused = { λ a b. b.faults ≡ counted a.faults };
 
     fn take(&mut self, into: &mut [u8]) -> Taken {
         match self.reader.read(into) {
@@ -90,6 +93,8 @@ impl<W: Write> Sink for WriterSink<W> {
     ghost gained = { λ a xs b. Appends (W.contents a.inner) (W.contents b.inner) xs };
 
     ghost faults = { λ s. s.faults };
+
+    ghost refused = { λ a b. b.faults ≡ counted a.faults };
 
     fn put(&mut self, bytes: &[u8]) -> Put {
         match self.writer.write(bytes) {

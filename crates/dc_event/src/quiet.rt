@@ -2,9 +2,8 @@
 ghost use Rattle.std.specs.Prelude.{◌≡◌, ℕ, ◌+◌, ◌-◌, ◌≤◌, ◌<◌, List, [], ◌++◌, length, take, drop, min, IfOk, Some, None, MatchOption};
 ghost use Rattle.std.specs.declared.option.Option.{Option};
 ghost use Rattle.std.specs.Io.KnownBytes.{IsAtEnd};
-ghost use Rattle.dc_event.specs.Answers.{taken_by, TakesAtMost, IfTaken, put_by, PutsSome, IfPut};
+ghost use Rattle.dc_event.specs.Answers.{taken_by, TakesAtMost, count_taken, IfTakeFailed, put_by, PutsSome, count_put, IfPutFailed};
 ghost use Rattle.dc_event.specs.Bytes.{Moved, Moved-none, Moved-both};
-ghost use Rattle.dc_event.specs.Causes.{Rose};
 ghost use Rattle.dc_event.specs.Quiet.{Filled, Filled-none, Filled-both};
 
 use crate::stream::{Sink, Source};
@@ -46,14 +45,15 @@ impl Source for QuietSource {
 
     ghost faults = { λ _. 0 };
 
+    ghost refused = { λ a b. ⊥ };
+
     fn take(&mut self, into: &mut [u8]) -> Taken
         requires { 0 < length into.old }
         ensures took { Moved self.old (taken_by result into.new) self.new }
         ensures bound { TakesAtMost result (length into.new) }
         ensures end { result ≡ Taken.Bytes 0 → IsAtEnd (Some self.new.left) }
-        ensures later { 0 ≤ 0 }
-        ensures stays { IfTaken result (◌≡◌ {A = ℕ} 0 0) }
-        ensures failed { result ≡ Taken.Failed → Rose 0 0 }
+        ensures count { 0 ≡ count_taken result 0 }
+        ensures failed { IfTakeFailed result ⊥ }
         ensures answer { result ≡ Taken.Bytes (min (length into.old) (length self.old.left)) }
     {
         let count = give(&self.bytes, self.at, usize::MAX, into);
@@ -134,13 +134,14 @@ impl Sink for QuietSink {
 
     ghost faults = { λ _. 0 };
 
+    ghost refused = { λ a b. ⊥ };
+
     fn put(&mut self, bytes: &[u8]) -> Put
         requires { 0 < length bytes.now }
         ensures gained { Filled self.old (put_by result bytes.now) self.new }
         ensures bound { PutsSome result (length bytes.now) }
-        ensures later { 0 ≤ 0 }
-        ensures stays { IfPut result (◌≡◌ {A = ℕ} 0 0) }
-        ensures failed { result ≡ Put.Failed → Rose 0 0 }
+        ensures count { 0 ≡ count_put result 0 }
+        ensures failed { IfPutFailed result ⊥ }
         ensures answer { result ≡ Put.Taken (length bytes.now) }
     {
         if self.passed || bytes.len() > self.buffer.len() - self.len {

@@ -1,9 +1,9 @@
 //! A source and a sink in memory whose calls of given numbers fail.
 ghost use Rattle.std.specs.Prelude.{◌≡◌, ℕ, ◌+◌, ◌-◌, ◌≤◌, ◌<◌, List, [], ◌++◌, length, take, drop, min, IfOk, Some, None};
 ghost use Rattle.std.specs.Io.KnownBytes.{IsAtEnd};
-ghost use Rattle.dc_event.specs.Answers.{taken_by, TakesAtMost, IfTaken, put_by, PutsSome, IfPut};
-ghost use Rattle.dc_event.specs.Causes.{Rose, counted};
-ghost use Rattle.dc_event.specs.Scripted.{Wound, Wound-none, Wound-both, Added, Added-none, Added-both, take_gives, put_gives, faults_taken, faults_put};
+ghost use Rattle.dc_event.specs.Answers.{taken_by, TakesAtMost, count_taken, IfTakeFailed, put_by, PutsSome, count_put, IfPutFailed};
+ghost use Rattle.dc_event.specs.Causes.{counted};
+ghost use Rattle.dc_event.specs.Scripted.{Wound, Wound-none, Wound-both, Added, Added-none, Added-both, take_gives, put_gives};
 
 use crate::quiet::{give, keep};
 use crate::stream::{Sink, Source};
@@ -57,17 +57,17 @@ impl Source for MemorySource {
 
     ghost faults = { λ s. s.faults };
 
+    ghost refused = { λ a b. b ≡ record a { calls = counted a.calls; faults = counted a.faults } };
+
     fn take(&mut self, into: &mut [u8]) -> Taken
         requires { 0 < length into.old }
         ensures took { Wound self.old (taken_by result into.new) self.new }
         ensures bound { TakesAtMost result (length into.new) }
         ensures end { result ≡ Taken.Bytes 0 → IsAtEnd (Some self.new.left) }
-        ensures later { self.old.faults ≤ self.new.faults }
-        ensures stays { IfTaken result (self.new.faults ≡ self.old.faults) }
-        ensures failed { result ≡ Taken.Failed → Rose self.old.faults self.new.faults }
+        ensures count { self.new.faults ≡ count_taken result self.old.faults }
+        ensures failed { IfTakeFailed result (self.new ≡ record self.old { calls = counted self.old.calls; faults = counted self.old.faults }) }
         ensures answer { result ≡ take_gives self.old (length into.old) }
         ensures calls { self.new.calls ≡ counted self.old.calls }
-        ensures faults { self.new.faults ≡ faults_taken result self.old.faults }
     {
         self.calls = self.calls.saturating_add(1);
         if self.fails.contains(&self.calls) {
@@ -140,16 +140,16 @@ impl Sink for MemorySink {
 
     ghost faults = { λ s. s.faults };
 
+    ghost refused = { λ a b. b ≡ record a { calls = counted a.calls; faults = counted a.faults } };
+
     fn put(&mut self, bytes: &[u8]) -> Put
         requires { 0 < length bytes.now }
         ensures gained { Added self.old (put_by result bytes.now) self.new }
         ensures bound { PutsSome result (length bytes.now) }
-        ensures later { self.old.faults ≤ self.new.faults }
-        ensures stays { IfPut result (self.new.faults ≡ self.old.faults) }
-        ensures failed { result ≡ Put.Failed → Rose self.old.faults self.new.faults }
+        ensures count { self.new.faults ≡ count_put result self.old.faults }
+        ensures failed { IfPutFailed result (self.new ≡ record self.old { calls = counted self.old.calls; faults = counted self.old.faults }) }
         ensures answer { result ≡ put_gives self.old (length bytes.now) }
         ensures calls { self.new.calls ≡ counted self.old.calls }
-        ensures faults { self.new.faults ≡ faults_put result self.old.faults }
     {
         self.calls = self.calls.saturating_add(1);
         let free = self.buffer.len() - self.len;

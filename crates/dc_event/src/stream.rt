@@ -1,9 +1,8 @@
 //! Where bytes come from and go to.
-ghost use Rattle.std.specs.Prelude.{◌≡◌, ℕ, ◌≤◌, ◌<◌, List, [], ◌++◌, length};
+ghost use Rattle.std.specs.Prelude.{◌≡◌, ℕ, ◌<◌, List, [], ◌++◌, length};
 ghost use Rattle.std.specs.declared.option.Option.{Option};
 ghost use Rattle.std.specs.Io.KnownBytes.{IsAtEnd, Consumes};
-ghost use Rattle.dc_event.specs.Answers.{taken_by, TakesAtMost, IfTaken, put_by, PutsSome, IfPut};
-ghost use Rattle.dc_event.specs.Causes.{Rose};
+ghost use Rattle.dc_event.specs.Answers.{taken_by, TakesAtMost, count_taken, IfTakeFailed, put_by, PutsSome, count_put, IfPutFailed};
 
 use crate::{Put, Taken};
 
@@ -15,6 +14,8 @@ pub trait Source {
     ghost left: { Self → Option (List ℕ) };
     /// How often the source has failed.
     ghost faults: { Self → ℕ };
+    /// Between these two states one call failed, and nothing else was done.
+    ghost refused: { Self → Self → Type 0 };
 
     /// Takes the next bytes, as many as the source gives at once. None are taken at the end, and where the source fails.
     fn take(&mut self, into: &mut [u8]) -> Taken
@@ -22,11 +23,10 @@ pub trait Source {
         ensures took { took self.old (taken_by result into.new) self.new }
         ensures bound { TakesAtMost result (length into.new) }
         ensures end { result ≡ Taken.Bytes 0 → IsAtEnd (left self.new) }
-        ensures later { faults self.old ≤ faults self.new }
-        ensures stays { IfTaken result (faults self.new ≡ faults self.old) }
-        ensures failed { result ≡ Taken.Failed → Rose (faults self.old) (faults self.new) };
+        ensures count { faults self.new ≡ count_taken result (faults self.old) }
+        ensures failed { IfTakeFailed result (refused self.old self.new) };
 
-    /// How often the source has failed. The count never falls.
+    /// How often the source has failed. The count stands still at 2^64 - 1.
     fn faults(&self) -> u64
         ensures { result ≡ faults self.now };
 
@@ -44,17 +44,18 @@ pub trait Sink {
     ghost gained: { Self → List ℕ → Self → Type 0 };
     /// How often the sink has failed.
     ghost faults: { Self → ℕ };
+    /// Between these two states one call failed, and nothing else was done.
+    ghost refused: { Self → Self → Type 0 };
 
     /// Puts the first bytes, at least one, as many as the sink takes at once. None are put where the sink fails.
     fn put(&mut self, bytes: &[u8]) -> Put
         requires { 0 < length bytes.now }
         ensures gained { gained self.old (put_by result bytes.now) self.new }
         ensures bound { PutsSome result (length bytes.now) }
-        ensures later { faults self.old ≤ faults self.new }
-        ensures stays { IfPut result (faults self.new ≡ faults self.old) }
-        ensures failed { result ≡ Put.Failed → Rose (faults self.old) (faults self.new) };
+        ensures count { faults self.new ≡ count_put result (faults self.old) }
+        ensures failed { IfPutFailed result (refused self.old self.new) };
 
-    /// How often the sink has failed. The count never falls.
+    /// How often the sink has failed. The count stands still at 2^64 - 1.
     fn faults(&self) -> u64
         ensures { result ≡ faults self.now };
 

@@ -1,16 +1,14 @@
 //! Whole texts.
-ghost use Rattle.std.specs.Prelude.{◌≡◌, ℕ, ◌≤◌, List, [], ◌++◌, length};
-ghost use Rattle.dc_event.specs.Answers.{PutsWhole, IfPut};
-ghost use Rattle.dc_event.specs.Causes.{Rose};
+ghost use Rattle.std.specs.Prelude.{◌≡◌, ℕ, List, [], ◌++◌, length};
+ghost use Rattle.dc_event.specs.Answers.{PutsWhole, well_put};
+ghost use Rattle.dc_event.specs.Causes.{Fares};
 
 use crate::{Put, Sink};
 
-/// Puts all of these bytes, by as many calls as it takes. Where a call fails, a front of them was put.
+/// Puts all of these bytes, by as many calls as it takes. Where a call fails, a front of them was put, and that call is the last.
 pub fn put_all<K: Sink>(sink: &mut K, bytes: &[u8]) -> Put
     ensures whole { PutsWhole K.gained result sink.old bytes.now sink.new }
-    ensures later { K.faults sink.old ≤ K.faults sink.new }
-    ensures stays { IfPut result (K.faults sink.new ≡ K.faults sink.old) }
-    ensures failed { result ≡ Put.Failed → Rose (K.faults sink.old) (K.faults sink.new) }
+    ensures fares { Fares K.gained K.refused K.faults (well_put result) sink.old sink.new }
 {
     let mut at: usize = 0;
     'bytes: while at < bytes.len() {

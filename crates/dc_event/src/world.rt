@@ -1,9 +1,9 @@
 //! The world that an engine runs in.
-ghost use Rattle.std.specs.Prelude.{◌≡◌, ℕ, ◌≤◌, List, [], ◌∷◌, ◌++◌};
+ghost use Rattle.std.specs.Prelude.{◌≡◌, ℕ, List, [], ◌∷◌, ◌++◌};
 ghost use Rattle.std.specs.Result.{is_ok};
 ghost use Rattle.dc_model.specs.Event.{Action, IsEvent};
-ghost use Rattle.dc_event.specs.Causes.{HasCause};
-ghost use Rattle.dc_event.specs.Answers.{IfHeard, IfMore, Warrants};
+ghost use Rattle.dc_event.specs.Causes.{count_by};
+ghost use Rattle.dc_event.specs.Answers.{count_heard, IfMore, Warrants};
 ghost use Rattle.dc_event.specs.History.{Exchange, listened, asked, answer_by, gathered_by, done_all};
 
 use dc_engine::{Effects, Inbox};
@@ -24,16 +24,15 @@ pub trait World: Effects {
     /// Listens for clients on an address, and sends to servers from another.
     fn listen(&mut self, addr: [u8; 4], send_from: [u8; 4]) -> Result<(), WorldFailed>
         ensures history { history self.old (listened addr send_from (is_ok result) ∷ []) self.new }
-        ensures cause { HasCause (faults self.old) (faults self.new) result };
+        ensures count { faults self.new ≡ count_by result (faults self.old) };
 
     /// Puts the next event into the inbox. A Tick comes at the moment `wake` where no other event came before.
     fn next(&mut self, wake: Option<u64>, inbox: &mut Inbox) -> Heard
         ensures history { history self.old (asked wake (answer_by result inbox.new) ∷ []) self.new }
-        ensures later { faults self.old ≤ faults self.new }
-        ensures stays { IfHeard result (faults self.new ≡ faults self.old) }
-        ensures warrant { Warrants result inbox.new (used_up self.new) (broken self.new) (faults self.old) (faults self.new) };
+        ensures count { faults self.new ≡ count_heard result (faults self.old) }
+        ensures warrant { Warrants result inbox.new (used_up self.new) (broken self.new) };
 
-    /// How often the world has failed. The count never falls.
+    /// How often the world has failed. The count stands still at 2^64 - 1.
     fn faults(&self) -> u64
         ensures { result ≡ faults self.now };
 
@@ -56,6 +55,6 @@ pub trait BatchWorld: World {
     /// Puts one more event into the inbox, where one has come already. It waits for none.
     fn more(&mut self, inbox: &mut Inbox) -> bool
         ensures history { Self.history self.old (gathered_by result inbox.new) self.new }
-        ensures faults { Self.faults self.new ≡ Self.faults self.old }
+        ensures count { Self.faults self.new ≡ Self.faults self.old }
         ensures bounds { IfMore result (IsEvent inbox.new) };
 }

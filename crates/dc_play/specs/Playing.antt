@@ -54,3 +54,19 @@ answer_from served.Spent true = Spent
 answer_from served.Ended true = Done
 answer_from served.Failed true = ReadFault
 answer_from (served.Bad line) true = Bad line
+
+-- Whether the input went well, and whether the output did.
+
+abbrev pub reads_well : Played → Bool
+reads_well Done = true
+reads_well Spent = true
+reads_well (Bad line) = true
+reads_well ReadFault = false
+reads_well WriteFault = true
+
+abbrev pub writes_well : Played → Bool
+writes_well Done = true
+writes_well Spent = true
+writes_well (Bad line) = true
+writes_well ReadFault = true
+writes_well WriteFault = false

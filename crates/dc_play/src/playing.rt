@@ -1,12 +1,12 @@
 //! Playing the events of a script to an engine.
-ghost use Rattle.std.specs.Prelude.{◌≡◌, ◌≢◌, ℕ, ◌+◌, ◌<◌, ◌^◌, false, List, ◌++◌};
+ghost use Rattle.std.specs.Prelude.{◌≡◌, ℕ, ◌+◌, ◌<◌, ◌^◌, false, List, ◌++◌};
 ghost use Rattle.std.specs.Io.KnownBytes.{IsAtEnd};
 ghost use Rattle.dc_model.specs.Draws.{draws_of};
-ghost use Rattle.dc_event.specs.Causes.{Rose};
+ghost use Rattle.dc_event.specs.Causes.{Fares};
 ghost use Rattle.dc_script.specs.Head.{MayFollow};
 ghost use Rattle.dc_script.specs.Read.{says};
 ghost use Rattle.dc_script.specs.Text.{text_of};
-ghost use Rattle.dc_play.specs.Playing.{Keeps, run_of, outcome_of, limit_of, answer_from};
+ghost use Rattle.dc_play.specs.Playing.{Keeps, run_of, outcome_of, limit_of, answer_from, reads_well, writes_well};
 
 use crate::played::Played;
 use dc_draws::Draws;
@@ -74,10 +74,8 @@ fn over<S: Source, K: Sink, E: Engine>(
         (outcome_of (run_of E.machine (draws_of seed) (E.state engine.old)) (limit_of turns) (says (events.lines + 1) (events.rest.rest ++ (bytes ++ tail))))
         (text_of (run_of E.machine (draws_of seed) (E.state engine.old) (says (events.lines + 1) (events.rest.rest ++ bytes)).events))
         text result.0)) }
-    ensures read { result.0 ≡ Played.ReadFault → Rose (S.faults source) (S.faults result.1) }
-    ensures write { result.0 ≡ Played.WriteFault → Rose (K.faults sink) (K.faults result.2) }
-    ensures read_stays { result.0 ≢ Played.ReadFault → result.0 ≢ Played.WriteFault → S.faults result.1 ≡ S.faults source }
-    ensures write_stays { result.0 ≢ Played.WriteFault → K.faults result.2 ≡ K.faults sink }
+    ensures read { Fares S.took S.refused S.faults (reads_well result.0) source result.1 }
+    ensures write { Fares K.gained K.refused K.faults (writes_well result.0) sink result.2 }
     ensures end { result.0 ≡ Played.Done → IsAtEnd (S.left result.1) }
 {
     let Places { buffer, mut inbox } = places;
@@ -108,10 +106,8 @@ pub fn play<S: Source, K: Sink, E: Engine>(
         (outcome_of (run_of E.machine (draws_of seed) (E.state engine.old)) (limit_of turns) (says (events.lines + 1) (events.rest.rest ++ (bytes ++ tail))))
         (text_of (run_of E.machine (draws_of seed) (E.state engine.old) (says (events.lines + 1) (events.rest.rest ++ bytes)).events))
         text result)) }
-    ensures read { result ≡ Played.ReadFault → Rose (S.faults source.old) (S.faults source.new) }
-    ensures write { result ≡ Played.WriteFault → Rose (K.faults sink.old) (K.faults sink.new) }
-    ensures read_stays { result ≢ Played.ReadFault → result ≢ Played.WriteFault → S.faults source.new ≡ S.faults source.old }
-    ensures write_stays { result ≢ Played.WriteFault → K.faults sink.new ≡ K.faults sink.old }
+    ensures read { Fares S.took S.refused S.faults (reads_well result) source.old source.new }
+    ensures write { Fares K.gained K.refused K.faults (writes_well result) sink.old sink.new }
     ensures end { result ≡ Played.Done → IsAtEnd (S.left source.new) }
 {
     let (answer, _, _) = over(places, engine, seed, events, source, sink, turns);

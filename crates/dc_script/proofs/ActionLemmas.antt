@@ -144,8 +144,8 @@ gained_whole gained false true old new text e w = absurd cc
 gained_whole gained true false old new text e w = absurd w
 gained_whole gained true true old new text e w = absurd cc
 
-pub Wrote-tells : {S K : Type 0} (gained : K → List ℕ → K → Type 0) (old new : Recorded S K) → Tells gained old.sink new.sink → new.write_failed ≡ false → TellsAmong AreOneActions (Wrote gained) old new
-Wrote-tells gained old new told whole = λ xs ys h k p q.
+pub Wrote-tells : {S K : Type 0} (gained : K → List ℕ → K → Type 0) (refused : K → K → Type 0) (faults : K → ℕ) (old new : Recorded S K) → Tells gained old.sink new.sink → new.write_failed ≡ false → TellsAmong AreOneActions (Wrote gained refused faults) old new
+Wrote-tells gained refused faults old new told whole = λ xs ys h k p q.
     text-same xs ys h k (told (text_of xs) (text_of ys)
     (gained_whole gained old.write_failed new.write_failed old.sink new.sink (text_of xs) whole p.written)
     (gained_whole gained old.write_failed new.write_failed old.sink new.sink (text_of ys) whole q.written))

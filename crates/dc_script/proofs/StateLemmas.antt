@@ -4,7 +4,6 @@ use Rattle.std.proofs.lemmas.Bool.Decides.{nat_tests}
 use Rattle.std.specs.Io.KnownBytes.{IsAtEnd}
 use Rattle.dc_model.specs.Event.{Event}
 use Rattle.dc_event.specs.Answers.{heard_by}
-use Rattle.dc_event.specs.Causes.{Rose}
 use Rattle.dc_event.specs.declared.answers.Heard.{Heard}
 use Rattle.dc_event.specs.declared.answers.Heard.TheVariants as answer
 use Rattle.dc_script.specs.Script.{most_line, event_of_line}
@@ -99,9 +98,6 @@ Answered-from answer.Event e over failed failed' breaks f h = h
 Answered-from answer.End e over failed failed' breaks f h = h
 Answered-from answer.Failed e over failed failed' breaks f h = f h
 Answered-from (answer.Bad line) e over failed failed' breaks f h = h
-
-pub Rose-from : (a b c : ℕ) → a ≤ b → Rose b c → Rose a c
-Rose-from a b c le h = omega arith
 
 -- The line `end` was read, and then nothing was handed out.
 pub ReadOff-behind : {S : Type 0} (took : S → List ℕ → S → Type 0) (a b : S) (ended found : Bool) (line rest after : List ℕ) (lines last : ℕ) (r : Heard) (e : Event)

@@ -32,8 +32,9 @@ same_events m n (text ∷ piece ∷ pieces) =
     (same_events (m + 1) (n + 1) (piece ∷ pieces))
 
 -- Where the bytes taken are told, so are the events.
-pub HandedOut-tells : {S K : Type 0} (took : S → List ℕ → S → Type 0) (old new : Recorded S K) → Tells took old.source new.source → Tells (HandedOut took) old new
-HandedOut-tells took old new told xs ys p q =
+pub HandedOut-tells : {S K : Type 0} (took : S → List ℕ → S → Type 0) (refused : S → S → Type 0) (faults : S → ℕ) (old new : Recorded S K) → Tells took old.source new.source
+    → Tells (HandedOut took refused faults) old new
+HandedOut-tells took refused faults old new told xs ys p q =
     let bytes : p.heard.bytes ≡ q.heard.bytes = told p.heard.bytes q.heard.bytes p.heard.taken q.heard.taken in
     let one = p.heard.read [] 0 in
     let two = q.heard.read [] 0 in

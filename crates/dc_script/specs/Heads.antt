@@ -1,5 +1,5 @@
 -- What the types of a script's head stand for, and what an answer of `read_head` says.
-use Rattle.std.specs.Prelude.{◌≡◌, ℕ, ◌+◌, ◌<◌, List, [], ◌++◌, length, Result, Ok, Err}
+use Rattle.std.specs.Prelude.{◌≡◌, ℕ, ◌+◌, ◌<◌, Bool, true, false, List, [], ◌++◌, length, Result, Ok, Err}
 use Rattle.std.specs.declared.option.Option.{Option}
 use Rattle.std.specs.declared.option.Option.TheVariants.{Some}
 use Rattle.dc_script.specs.Script.{pieces_of}
@@ -67,6 +67,20 @@ Reads next.Bad old text more new rest left =
     (tail : List ℕ) → MayFollow left tail → (k : ℕ) → head_from k (going (stage_of old.stage) (head_in old)) (pieces_of (text ++ (more ++ tail))) ≡ other (k + 1)
 Reads next.Failed old text more new rest left =
     ((k : ℕ) → head_from k (going (stage_of old.stage) (head_in old)) (pieces_of (text ++ more)) ≡ other (k + 1)) × (length (pieces_of (text ++ more)) ≡ 1)
+
+-- Whether the source went well.
+
+abbrev pub well_next : HeadNext → Bool
+well_next next.Going = true
+well_next next.Begun = true
+well_next next.Bad = true
+well_next next.Failed = false
+
+abbrev pub well_read : {T : Type 0} → Result T ScriptError → Bool
+well_read (Ok value) = true
+well_read (Err (Bad k)) = true
+well_read (Err ReadFault) = false
+well_read (Err NoMemory) = true
 
 -- What an answer to all lines of a head says of the bytes that were taken.
 abbrev pub LinesStand : Result ℕ ScriptError → (new : Setup) → (rest bytes : List ℕ) → (left : Option (List ℕ)) → Type 0

@@ -5,6 +5,8 @@ pub mod Script
 pub mod Lines
 pub mod Read
 pub mod Written
+pub mod Fated
+pub mod Order
 pub mod World
 pub mod Heading
 pub mod Head

@@ -1,5 +1,5 @@
 -- Lines of a source, taken in whatever pieces it gives.
-use Rattle.std.specs.Prelude.{◌≡◌, ◌≢◌, ℕ, ◌+◌, ◌<◌, ◌≤◌, List, ◌∷◌, ◌++◌, length, take, slice_index}
+use Rattle.std.specs.Prelude.{◌≡◌, ◌≢◌, ℕ, Bool, true, false, ◌+◌, ◌<◌, ◌≤◌, List, ◌∷◌, ◌++◌, length, take, slice_index}
 use Rattle.std.specs.declared.option.Option.{Option}
 use Rattle.std.specs.Io.KnownBytes.{IsAtEnd}
 use Rattle.dc_event.specs.declared.answers.Taken.{Taken}
@@ -34,6 +34,13 @@ pub record FindsIn {S : Type 0} (took : S → List ℕ → S → Type 0) (left :
 
 abbrev pub FindsNext : {S : Type 0} → (S → List ℕ → S → Type 0) → (S → Option (List ℕ)) → NextLine → Held → S → Held → S → Type 0
 FindsNext took left answer old source new after = (more : List ℕ) × FindsIn took left answer old source new after more
+
+-- Whether the source went well.
+abbrev pub well_line : NextLine → Bool
+well_line Found = true
+well_line TooLong = true
+well_line Ended = true
+well_line Failed = false
 
 -- How many bytes were taken.
 abbrev pub count_of : Taken → ℕ

@@ -23,6 +23,13 @@ pub text_of-one : (x : Action) → text_of (x ∷ []) ≡ action_text x
 unfolding text_of
 text_of-one x = append-nil (action_text x)
 
+-- Where no write has failed, the whole text was gained.
+pub written_whole : {K : Type 0} (gained : K → List ℕ → K → Type 0) (before after : Bool) (old new : K) (text : List ℕ) → Written gained before after old text new
+    → before ≡ false → after ≡ false → gained old text new
+written_whole gained false false old new text w e f = w
+written_whole gained false true old new text w e f = cc
+written_whole gained true after old new text w e f = cc
+
 module _ {K : Type 0} (gained : K → List ℕ → K → Type 0) (none : (a : K) → gained a [] a)
     (both : (a b c : K) (xs ys : List ℕ) → gained a xs b → gained b ys c → gained a (xs ++ ys) c) where
   pub Written-none : (failed : Bool) (a : K) → Written gained failed failed a [] a

@@ -1,8 +1,8 @@
 //! The head of a script.
 ghost use Rattle.std.specs.Prelude.{◌≡◌, ◌≢◌, ◌≤◌, ◌++◌, ℕ, List, [], Some, IfOk};
-ghost use Rattle.dc_event.specs.Causes.{Rose};
+ghost use Rattle.dc_event.specs.Causes.{Fares};
 ghost use Rattle.dc_script.specs.Head.{at_version, no_head};
-ghost use Rattle.dc_script.specs.Heads.{stage_of, head_in, Reads, LinesStand, HeadStands, HeadIs};
+ghost use Rattle.dc_script.specs.Heads.{stage_of, head_in, Reads, LinesStand, HeadStands, HeadIs, well_next, well_read};
 
 use crate::lines::{LineRest, NextLine};
 use crate::setup::{Setup, Step};
@@ -63,9 +63,7 @@ pub(crate) enum HeadNext {
 /// Reads the next line of a head.
 fn read_line<S: Source>(setup: &mut Setup, rest: &mut LineRest, source: &mut S) -> HeadNext
     ensures reads { (more : List ℕ) × S.took source.old more source.new × Reads result setup.old rest.old.rest more setup.new rest.new.rest (S.left source.new) }
-    ensures later { S.faults source.old ≤ S.faults source.new }
-    ensures stays { result ≢ HeadNext.Failed → S.faults source.new ≡ S.faults source.old }
-    ensures failed { result ≡ HeadNext.Failed → Rose (S.faults source.old) (S.faults source.new) }
+    ensures fares { Fares S.took S.refused S.faults (well_next result) source.old source.new }
 {
     match rest.next_line(source) {
         NextLine::Found => match setup.read(rest.line()) {
@@ -89,9 +87,7 @@ fn read_lines<S: Source>(
     requires head { head_in setup.old ≡ no_head }
     requires rest { rest.old.rest ≡ [] }
     ensures head { (bytes : List ℕ) × S.took source.old bytes source.new × LinesStand result setup.new rest.new.rest bytes (S.left source.new) }
-    ensures later { S.faults source.old ≤ S.faults source.new }
-    ensures stays { result ≢ Err ScriptError.ReadFault → S.faults source.new ≡ S.faults source.old }
-    ensures failed { result ≡ Err ScriptError.ReadFault → Rose (S.faults source.old) (S.faults source.new) }
+    ensures fares { Fares S.took S.refused S.faults (well_read result) source.old source.new }
     ensures memory { result ≡ Err ScriptError.NoMemory → ⊥ }
     ensures few { IfOk result (λ lines. lines ≤ 4358) }
 {
@@ -112,9 +108,7 @@ fn read_lines<S: Source>(
 pub fn read_head<S: Source>(alloc: Global, source: &mut S) -> Result<Script, ScriptError>
     ensures head { (bytes : List ℕ) × S.took source.old bytes source.new × HeadStands result bytes (S.left source.new) }
     ensures exact { (text : List ℕ) → S.left source.old ≡ Some text → HeadIs result text (S.left source.new) }
-    ensures later { S.faults source.old ≤ S.faults source.new }
-    ensures stays { result ≢ Err ScriptError.ReadFault → S.faults source.new ≡ S.faults source.old }
-    ensures failed { result ≡ Err ScriptError.ReadFault → Rose (S.faults source.old) (S.faults source.new) }
+    ensures fares { Fares S.took S.refused S.faults (well_read result) source.old source.new }
     ensures memory { result ≡ Err ScriptError.NoMemory → source.new ≡ source.old }
     ensures few { IfOk result (λ script. script.lines ≤ 4358) }
 {

@@ -1,9 +1,9 @@
 //! Lines, taken from a source in whatever pieces it gives.
 ghost use Rattle.std.specs.Prelude.{◌≡◌, ◌≢◌, ℕ, List, ◌+◌, ◌-◌, ◌<◌, ◌≤◌, [], ◌∷◌, ◌++◌, length, take, drop, slice_index, IfOk, MatchOption, MatchBool, Some, None, ◌⊎◌};
 ghost use Rattle.std.specs.Io.KnownBytes.{IsAtEnd};
-ghost use Rattle.dc_event.specs.Answers.{taken_by, IfTaken};
-ghost use Rattle.dc_event.specs.Causes.{Rose};
-ghost use Rattle.dc_script.specs.Lines.{IsOneLine, Finds, FindsNext, count_of};
+ghost use Rattle.dc_event.specs.Answers.{taken_by, count_taken, IfTakeFailed};
+ghost use Rattle.dc_event.specs.Causes.{Fares};
+ghost use Rattle.dc_script.specs.Lines.{IsOneLine, Finds, FindsNext, count_of, well_line};
 
 use dc_event::{Source, Taken};
 use memchr::memchr;
@@ -138,9 +138,8 @@ impl LineRest {
         ensures line { self.new.line ≡ [] }
         ensures room { length self.new.rest ≤ 262144 }
         ensures end { result ≡ Taken.Bytes 0 → IsAtEnd (S.left source.new) }
-        ensures later { S.faults source.old ≤ S.faults source.new }
-        ensures stays { IfTaken result (S.faults source.new ≡ S.faults source.old) }
-        ensures failed { result ≡ Taken.Failed → Rose (S.faults source.old) (S.faults source.new) }
+        ensures count { S.faults source.new ≡ count_taken result (S.faults source.old) }
+        ensures failed { IfTakeFailed result (S.refused source.old source.new) }
     {
         let held = self.end - self.start;
         self.buffer.copy_within(self.start..self.end, 0);
@@ -172,9 +171,7 @@ impl LineRest {
     /// Finds the next line. Further bytes are taken only where no whole line is held.
     pub fn next_line<S: Source>(&mut self, source: &mut S) -> NextLine
         ensures found { FindsNext S.took S.left result self.old source.old self.new source.new }
-        ensures later { S.faults source.old ≤ S.faults source.new }
-        ensures stays { result ≢ NextLine.Failed → S.faults source.new ≡ S.faults source.old }
-        ensures failed { result ≡ NextLine.Failed → Rose (S.faults source.old) (S.faults source.new) }
+        ensures fares { Fares S.took S.refused S.faults (well_line result) source.old source.new }
     {
         let mut searched: usize = 0;
         loop {
@@ -211,9 +208,8 @@ fn take_behind<S: Source>(source: &mut S, buffer: &mut [u8], end: usize) -> Take
     ensures bound { end + count_of result ≤ length buffer.new }
     ensures front { take end buffer.new ≡ take end buffer.old }
     ensures end { result ≡ Taken.Bytes 0 → IsAtEnd (S.left source.new) }
-    ensures later { S.faults source.old ≤ S.faults source.new }
-    ensures stays { IfTaken result (S.faults source.new ≡ S.faults source.old) }
-    ensures failed { result ≡ Taken.Failed → Rose (S.faults source.old) (S.faults source.new) }
+    ensures count { S.faults source.new ≡ count_taken result (S.faults source.old) }
+    ensures failed { IfTakeFailed result (S.refused source.old source.new) }
 {
     source.take(&mut buffer[end..])
 }

@@ -1,9 +1,9 @@
 //! The events of a script, read off a source line by line.
-ghost use Rattle.std.specs.Prelude.{◌≡◌, ◌≢◌, ◌+◌, ◌*◌, ◌≤◌, ◌<◌, ◌^◌, ℕ, Bool, true, false, List, [], ◌∷◌, ◌++◌, length, IfOk, Some, if◌then◌else◌, bytes_eq, codes};
+ghost use Rattle.std.specs.Prelude.{◌≡◌, ◌≢◌, ◌+◌, ◌*◌, ◌≤◌, ◌<◌, ◌^◌, ℕ, Bool, true, false, not, List, [], ◌∷◌, ◌++◌, length, IfOk, Some, if◌then◌else◌, bytes_eq, codes};
 ghost use Rattle.std.specs.Io.KnownBytes.{IsAtEnd};
-ghost use Rattle.dc_event.specs.Answers.{heard_by, Warrants};
-ghost use Rattle.dc_event.specs.Causes.{Rose};
-ghost use Rattle.dc_script.specs.Lines.{IsOneLine, Finds};
+ghost use Rattle.dc_event.specs.Answers.{heard_by, Warrants, well_heard};
+ghost use Rattle.dc_event.specs.Causes.{counted, Fares};
+ghost use Rattle.dc_script.specs.Lines.{IsOneLine, Finds, well_line};
 ghost use Rattle.dc_model.specs.Event.{IsEvent};
 ghost use Rattle.dc_script.specs.Read.{unread, ReadOff};
 ghost use Rattle.dc_script.specs.Script.{AreDigits};
@@ -37,10 +37,8 @@ pub(crate) struct Reader<S: Source> {
     pub(crate) ghost room: { length bytes.items ≡ 65535 },
     pub(crate) ghost line: { found ≡ true → IsOneLine rest.line },
     pub(crate) ghost short: { found ≡ true → length rest.line ≤ 131200 },
-    /// The source's count hasn't fallen.
-    pub(crate) ghost started: { start ≤ S.faults source },
-    /// A read fails only where the source's count rose.
-    pub(crate) ghost caused: { failed ≡ true → Rose start (S.faults source) },
+    /// Where a read has failed, the source's count is one higher, since nothing more was read.
+    pub(crate) ghost caused: { failed ≡ true → S.faults source ≡ counted start },
     /// Where no read has failed, the count is what it was.
     pub(crate) ghost unfailed: { failed ≡ false → S.faults source ≡ start },
 }
@@ -94,7 +92,7 @@ impl<S: Source> Reader<S> {
     /// Gives the source back.
     pub(crate) fn into_source(self) -> S
         ensures source { result ≡ self.source }
-        ensures cause { self.failed ≡ true → Rose self.start (S.faults self.source) }
+        ensures cause { self.failed ≡ true → S.faults self.source ≡ counted self.start }
         ensures stays { self.failed ≡ false → S.faults self.source ≡ self.start }
     {
         self.source
@@ -102,15 +100,14 @@ impl<S: Source> Reader<S> {
 
     /// Finds the next line, where none is found yet.
     fn peek(&mut self) -> NextLine
+        requires { self.old.failed ≡ false }
         ensures heard { ReadOff S.took self.old.source (unread self.old.ended self.old.found self.old.rest.line self.old.rest.rest) self.old.lines []
             self.new.source (unread self.new.ended self.new.found self.new.rest.line self.new.rest.rest) self.new.lines }
         ensures found { Peeked result self.new.found self.new.rest.rest (S.left self.new.source) }
         ensures ended { self.new.ended ≡ self.old.ended }
         ensures start { self.new.start ≡ self.old.start }
-        ensures later { S.faults self.old.source ≤ S.faults self.new.source }
-        ensures stays { result ≢ NextLine.Failed → S.faults self.new.source ≡ S.faults self.old.source }
-        ensures failed { result ≡ NextLine.Failed → Rose (S.faults self.old.source) (S.faults self.new.source) }
-        ensures marked { result ≡ NextLine.Failed → self.new.failed ≡ true }
+        ensures fares { Fares S.took S.refused S.faults (well_line result) self.old.source self.new.source }
+        ensures marked { self.new.failed ≡ not (well_line result) }
         ensures stopped { IfStopped result (SaysNoMore (unread self.new.ended self.new.found self.new.rest.line self.new.rest.rest)) (self.new.failed ≡ self.old.failed) }
     {
         if self.found {
@@ -135,14 +132,16 @@ impl<S: Source> Reader<S> {
 
     /// What comes behind the line `end`: nothing, or else a bad line.
     fn behind_end(&mut self) -> Heard
-        requires { self.old.ended ≡ true }
+        requires ended { self.old.ended ≡ true }
+        requires unfailed { self.old.failed ≡ false }
         ensures heard { ReadOff S.took self.old.source (unread self.old.ended self.old.found self.old.rest.line self.old.rest.rest) self.old.lines []
             self.new.source (unread self.new.ended self.new.found self.new.rest.line self.new.rest.rest) self.new.lines }
         ensures answer { NoEvent result (IsAtEnd (S.left self.new.source) × IsOver (unread self.new.ended self.new.found self.new.rest.line self.new.rest.rest))
             (Breaks (S.left self.new.source) (unread self.new.ended self.new.found self.new.rest.line self.new.rest.rest) self.new.lines)
-            ((self.new.failed ≡ true) × Rose (S.faults self.old.source) (S.faults self.new.source)) }
+            (self.new.failed ≡ true) }
         ensures start { self.new.start ≡ self.old.start }
-        ensures later { S.faults self.old.source ≤ S.faults self.new.source }
+        ensures fares { Fares S.took S.refused S.faults (well_heard result) self.old.source self.new.source }
+        ensures marked { self.new.failed ≡ not (well_heard result) }
         ensures stopped { IfFailed result (SaysNoMore (unread self.new.ended self.new.found self.new.rest.line self.new.rest.rest)) (self.new.failed ≡ self.old.failed) }
     {
         match self.peek() {
@@ -171,13 +170,15 @@ impl<S: Source> Reader<S> {
     fn line_found(&mut self, inbox: &mut Inbox) -> Heard
         requires ended { self.old.ended ≡ false }
         requires found { self.old.found ≡ true }
+        requires unfailed { self.old.failed ≡ false }
         ensures heard { ReadOff S.took self.old.source (unread self.old.ended self.old.found self.old.rest.line self.old.rest.rest) self.old.lines (heard_by result inbox.new)
             self.new.source (unread self.new.ended self.new.found self.new.rest.line self.new.rest.rest) self.new.lines }
         ensures answer { Answered result inbox.new (IsAtEnd (S.left self.new.source) × IsOver (unread self.new.ended self.new.found self.new.rest.line self.new.rest.rest))
             (Breaks (S.left self.new.source) (unread self.new.ended self.new.found self.new.rest.line self.new.rest.rest) self.new.lines)
-            ((self.new.failed ≡ true) × Rose (S.faults self.old.source) (S.faults self.new.source)) }
+            (self.new.failed ≡ true) }
         ensures start { self.new.start ≡ self.old.start }
-        ensures later { S.faults self.old.source ≤ S.faults self.new.source }
+        ensures fares { Fares S.took S.refused S.faults (well_heard result) self.old.source self.new.source }
+        ensures marked { self.new.failed ≡ not (well_heard result) }
         ensures stopped { IfFailed result (SaysNoMore (unread self.new.ended self.new.found self.new.rest.line self.new.rest.rest)) (self.new.failed ≡ self.old.failed) }
     {
         if is_end(self.rest.line()) {
@@ -201,14 +202,16 @@ impl<S: Source> Reader<S> {
 
     /// What the next line says, where the line `end` wasn't read.
     fn before_end(&mut self, inbox: &mut Inbox) -> Heard
-        requires { self.old.ended ≡ false }
+        requires ended { self.old.ended ≡ false }
+        requires unfailed { self.old.failed ≡ false }
         ensures heard { ReadOff S.took self.old.source (unread self.old.ended self.old.found self.old.rest.line self.old.rest.rest) self.old.lines (heard_by result inbox.new)
             self.new.source (unread self.new.ended self.new.found self.new.rest.line self.new.rest.rest) self.new.lines }
         ensures answer { Answered result inbox.new (IsAtEnd (S.left self.new.source) × IsOver (unread self.new.ended self.new.found self.new.rest.line self.new.rest.rest))
             (Breaks (S.left self.new.source) (unread self.new.ended self.new.found self.new.rest.line self.new.rest.rest) self.new.lines)
-            ((self.new.failed ≡ true) × Rose (S.faults self.old.source) (S.faults self.new.source)) }
+            (self.new.failed ≡ true) }
         ensures start { self.new.start ≡ self.old.start }
-        ensures later { S.faults self.old.source ≤ S.faults self.new.source }
+        ensures fares { Fares S.took S.refused S.faults (well_heard result) self.old.source self.new.source }
+        ensures marked { self.new.failed ≡ not (well_heard result) }
         ensures stopped { IfFailed result (SaysNoMore (unread self.new.ended self.new.found self.new.rest.line self.new.rest.rest)) (self.new.failed ≡ self.old.failed) }
     {
         match self.peek() {
@@ -225,13 +228,15 @@ impl<S: Source> Reader<S> {
 
     /// What the script says next.
     pub(crate) fn hear(&mut self, inbox: &mut Inbox) -> Heard
+        requires { self.old.failed ≡ false }
         ensures heard { ReadOff S.took self.old.source (unread self.old.ended self.old.found self.old.rest.line self.old.rest.rest) self.old.lines (heard_by result inbox.new)
             self.new.source (unread self.new.ended self.new.found self.new.rest.line self.new.rest.rest) self.new.lines }
         ensures answer { Answered result inbox.new (IsAtEnd (S.left self.new.source) × IsOver (unread self.new.ended self.new.found self.new.rest.line self.new.rest.rest))
             (Breaks (S.left self.new.source) (unread self.new.ended self.new.found self.new.rest.line self.new.rest.rest) self.new.lines)
-            ((self.new.failed ≡ true) × Rose (S.faults self.old.source) (S.faults self.new.source)) }
+            (self.new.failed ≡ true) }
         ensures start { self.new.start ≡ self.old.start }
-        ensures later { S.faults self.old.source ≤ S.faults self.new.source }
+        ensures fares { Fares S.took S.refused S.faults (well_heard result) self.old.source self.new.source }
+        ensures marked { self.new.failed ≡ not (well_heard result) }
         ensures stopped { IfFailed result (SaysNoMore (unread self.new.ended self.new.found self.new.rest.line self.new.rest.rest)) (self.new.failed ≡ self.old.failed) }
     {
         if self.ended {

@@ -4,11 +4,11 @@ ghost use Rattle.std.specs.declared.option.Option.{Option};
 ghost use Rattle.std.specs.Io.KnownBytes.{IsAtEnd};
 ghost use Rattle.std.proofs.Common.{ap};
 ghost use Rattle.dc_model.specs.Event.{Action as ModelAction, Event};
-ghost use Rattle.dc_event.specs.Answers.{heard_by, IfHeard, Warrants};
-ghost use Rattle.dc_event.specs.Causes.{Rose};
+ghost use Rattle.dc_event.specs.Answers.{heard_by, count_heard, Warrants};
+ghost use Rattle.dc_event.specs.Causes.{counted};
 ghost use Rattle.dc_event.specs.History.{asked, answer_by};
 ghost use Rattle.dc_script.specs.View.{action_of};
-ghost use Rattle.dc_script.specs.World.{Recorded, opened, Acted, HandedOut, Passed, IsOver, Breaks, Acted-none, Acted-both, Acted-faults, Acted-passed, Passed-none, Passed-both, Answered, faults_behind, SaysNoMore, IfFailed};
+ghost use Rattle.dc_script.specs.World.{Recorded, opened, Acted, HandedOut, Passed, IsOver, Breaks, Acted-none, Acted-both, Acted-faults, Acted-passed, Passed-none, Passed-both, Answered, SaysNoMore, IfFailed};
 
 use crate::action::Action;
 use crate::lines::LineRest;
@@ -99,28 +99,28 @@ impl<S: Source, K: Sink> ScriptWorld<S, K> {
     pub fn into_parts(self) -> (S, K)
         ensures source { result.0 ≡ self.source }
         ensures sink { result.1 ≡ self.sink }
-        ensures read { self.read_failed ≡ true → Rose self.source_start (S.faults self.source) }
-        ensures write { self.write_failed ≡ true → Rose self.sink_start (K.faults self.sink) }
+        ensures read { self.read_failed ≡ true → S.faults self.source ≡ counted self.source_start }
+        ensures write { self.write_failed ≡ true → K.faults self.sink ≡ counted self.sink_start }
         ensures read_all { self.read_failed ≡ false → S.faults self.source ≡ self.source_start }
         ensures wrote_all { self.write_failed ≡ false → K.faults self.sink ≡ self.sink_start }
     {
         (self.reader.into_source(), self.writer.into_sink())
     }
 
-    /// How often the source has failed. It failed since the world was made where a read has failed.
+    /// How often the source has failed. It is one more than when the world was made where a read has failed, and else what it was.
     pub fn source_faults(&self) -> u64
         ensures value { result ≡ S.faults self.now.source }
-        ensures later { self.now.source_start ≤ result }
-        ensures cause { self.now.read_failed ≡ true → Rose self.now.source_start result }
+        ensures cause { self.now.read_failed ≡ true → result ≡ counted self.now.source_start }
+        ensures stays { self.now.read_failed ≡ false → result ≡ self.now.source_start }
     {
         self.reader.source.faults()
     }
 
-    /// How often the sink has failed. It failed since the world was made where a write has failed.
+    /// How often the sink has failed. It is one more than when the world was made where a write has failed, and else what it was.
     pub fn sink_faults(&self) -> u64
         ensures value { result ≡ K.faults self.now.sink }
-        ensures later { self.now.sink_start ≤ result }
-        ensures cause { self.now.write_failed ≡ true → Rose self.now.sink_start result }
+        ensures cause { self.now.write_failed ≡ true → result ≡ counted self.now.sink_start }
+        ensures stays { self.now.write_failed ≡ false → result ≡ self.now.sink_start }
     {
         self.writer.sink.faults()
     }
@@ -143,14 +143,15 @@ impl<S: Source, K: Sink> ScriptWorld<S, K> {
 
     /// The next event, where neither a read nor a write has failed.
     fn hear(&mut self, inbox: &mut Inbox) -> Heard
-        ensures heard { HandedOut S.took self.old (heard_by result inbox.new) self.new }
+        ensures heard { HandedOut S.took S.refused S.faults self.old (heard_by result inbox.new) self.new }
         ensures same { self.new ≡ record self.old { source = self.new.source; unread = self.new.unread; lines = self.new.lines; read_failed = self.new.read_failed } }
         ensures answer { Answered result inbox.new (IsAtEnd (S.left self.new.source) × IsOver self.new.unread × (self.new.write_failed ≡ false))
             (λ number. Breaks (S.left self.new.source) self.new.unread self.new.lines number × (self.new.write_failed ≡ false))
-            (Rose self.new.source_start (S.faults self.new.source) ⊎ Rose self.new.sink_start (K.faults self.new.sink)) }
+            ((S.faults self.new.source ≡ counted self.new.source_start) ⊎ (K.faults self.new.sink ≡ counted self.new.sink_start)) }
         ensures stopped { self.old.read_failed ≡ false → self.new.read_failed ≡ true → SaysNoMore self.new.unread }
         ensures calm { IfFailed result (Unit {0}) (self.new.read_failed ≡ self.old.read_failed) }
         ensures stays { self.old.read_failed ≡ true → self.new ≡ self.old }
+        ensures unread { self.old.write_failed ≡ true → self.new.read_failed ≡ self.old.read_failed }
         ensures read { self.old.read_failed ≡ true → result ≡ Heard.Failed }
         ensures write { self.old.write_failed ≡ true → result ≡ Heard.Failed }
         ensures marked { result ≡ Heard.Failed → (self.new.read_failed ≡ true) ⊎ (self.new.write_failed ≡ true) }
@@ -166,7 +167,7 @@ impl<S: Source, K: Sink> ScriptWorld<S, K> {
 
     /// Writes an action.
     fn act(&mut self, action: Action<'_>)
-        ensures { Acted K.gained self.old (action_of action.entry ∷ []) self.new }
+        ensures { Acted K.gained K.refused K.faults self.old (action_of action.entry ∷ []) self.new }
     {
         self.writer.write(action);
     }
@@ -174,8 +175,7 @@ impl<S: Source, K: Sink> ScriptWorld<S, K> {
     /// Keeps an answer, and counts it where it is a fault.
     fn note(&mut self, answer: Heard)
         requires { answer ≡ Heard.Failed → (self.old.read_failed ≡ true) ⊎ (self.old.write_failed ≡ true) }
-        ensures later { self.old.faults ≤ self.new.faults }
-        ensures note { self.new ≡ record self.old { faults = faults_behind answer self.old.faults; last = Some answer } }
+        ensures note { self.new ≡ record self.old { faults = count_heard answer self.old.faults; last = Some answer } }
     {
         if let Heard::Failed = answer {
             self.faults = self.faults.saturating_add(1);
@@ -185,7 +185,7 @@ impl<S: Source, K: Sink> ScriptWorld<S, K> {
 }
 
 impl<S: Source, K: Sink> Effects for ScriptWorld<S, K> {
-    ghost acted = { Acted K.gained };
+    ghost acted = { Acted K.gained K.refused K.faults };
 
     fn reply(&mut self, addr: [u8; 4], port: u16, bytes: &[u8]) {
         self.act(Action::Reply { addr, port, bytes });
@@ -228,13 +228,13 @@ impl<S: Source, K: Sink> Effects for ScriptWorld<S, K> {
         self.act(Action::Line { text });
     }
 
-    ghost acted_none = { Acted-none K.gained K.gained_none K.gained_both };
+    ghost acted_none = { Acted-none K.gained K.gained_none K.gained_both K.refused K.faults };
 
-    ghost acted_both = { Acted-both K.gained K.gained_none K.gained_both };
+    ghost acted_both = { Acted-both K.gained K.gained_none K.gained_both K.refused K.faults };
 }
 
 impl<S: Source, K: Sink> World for ScriptWorld<S, K> {
-    ghost history = { Passed S.took K.gained };
+    ghost history = { Passed S.took S.refused S.faults K.gained K.refused K.faults };
 
     ghost faults = { λ w. w.faults };
 
@@ -248,21 +248,19 @@ impl<S: Source, K: Sink> World for ScriptWorld<S, K> {
     }
 
     fn next(&mut self, wake: Option<u64>, inbox: &mut Inbox) -> Heard
-        ensures history { Passed S.took K.gained self.old (asked wake (answer_by result inbox.new) ∷ []) self.new }
-        ensures later { self.old.faults ≤ self.new.faults }
-        ensures stays { IfHeard result (self.new.faults ≡ self.old.faults) }
+        ensures history { Passed S.took S.refused S.faults K.gained K.refused K.faults self.old (asked wake (answer_by result inbox.new) ∷ []) self.new }
+        ensures count { self.new.faults ≡ count_heard result self.old.faults }
         ensures warrant { Warrants result inbox.new (IsAtEnd (S.left self.new.source) × IsOver self.new.unread × (self.new.write_failed ≡ false))
-            (λ number. Breaks (S.left self.new.source) self.new.unread self.new.lines number × (self.new.write_failed ≡ false))
-            self.old.faults self.new.faults }
+            (λ number. Breaks (S.left self.new.source) self.new.unread self.new.lines number × (self.new.write_failed ≡ false)) }
         ensures same { self.new ≡ record self.old {
           source = self.new.source;
           unread = self.new.unread;
           lines = self.new.lines;
           read_failed = self.new.read_failed;
-          faults = faults_behind result self.old.faults;
+          faults = count_heard result self.old.faults;
           last = Some result;
         } }
-        ensures cause { result ≡ Heard.Failed → Rose self.new.source_start (S.faults self.new.source) ⊎ Rose self.new.sink_start (K.faults self.new.sink) }
+        ensures cause { result ≡ Heard.Failed → (S.faults self.new.source ≡ counted self.new.source_start) ⊎ (K.faults self.new.sink ≡ counted self.new.sink_start) }
         ensures stopped { self.old.read_failed ≡ false → self.new.read_failed ≡ true → SaysNoMore self.new.unread }
         ensures read { self.old.read_failed ≡ true → result ≡ Heard.Failed }
         ensures write { self.old.write_failed ≡ true → result ≡ Heard.Failed }
@@ -277,11 +275,11 @@ impl<S: Source, K: Sink> World for ScriptWorld<S, K> {
         self.faults
     }
 
-    ghost history_none = { Passed-none S.took S.took_none S.took_both K.gained K.gained_none K.gained_both };
+    ghost history_none = { Passed-none S.took S.took_none S.took_both S.refused S.faults K.gained K.gained_none K.gained_both K.refused K.faults };
 
-    ghost history_both = { Passed-both S.took S.took_none S.took_both K.gained K.gained_none K.gained_both };
+    ghost history_both = { Passed-both S.took S.took_none S.took_both S.refused S.faults K.gained K.gained_none K.gained_both K.refused K.faults };
 
-    ghost acted_history = { Acted-passed S.took S.took_none S.took_both K.gained K.gained_none K.gained_both };
+    ghost acted_history = { Acted-passed S.took S.took_none S.took_both S.refused S.faults K.gained K.gained_none K.gained_both K.refused K.faults };
 
-    ghost acted_faults = { Acted-faults K.gained };
+    ghost acted_faults = { Acted-faults K.gained K.refused K.faults };
 }

@@ -1,8 +1,8 @@
 //! Writing actions to a sink, each at once.
 ghost use Rattle.std.specs.Prelude.{◌≡◌, ◌≤◌, ◌+◌, [], ◌++◌, ◌∷◌, length, true, false};
 ghost use Rattle.arrayvec.specs.ArrayVec.{array_vec_len};
-ghost use Rattle.dc_event.specs.Answers.{IfPut};
-ghost use Rattle.dc_event.specs.Causes.{Rose};
+ghost use Rattle.dc_event.specs.Answers.{well_put};
+ghost use Rattle.dc_event.specs.Causes.{Fares};
 ghost use Rattle.dc_script.specs.Put.{Passed, PutWhole};
 ghost use Rattle.dc_model.specs.Line.{hex};
 ghost use Rattle.dc_script.specs.Text.{bytes_text, action_text};
@@ -19,9 +19,7 @@ const PIECE: usize = 1024;
 fn flush<K: Sink>(sink: &mut K, text: &mut Buffer) -> bool
     ensures put { Passed K.gained result sink.old text.old.items [] sink.new text.new.items }
     ensures empty { text.new.items ≡ [] }
-    ensures later { K.faults sink.old ≤ K.faults sink.new }
-    ensures stays { result ≡ true → K.faults sink.new ≡ K.faults sink.old }
-    ensures cause { result ≡ false → Rose (K.faults sink.old) (K.faults sink.new) }
+    ensures fares { Fares K.gained K.refused K.faults result sink.old sink.new }
 {
     let put = put_all(sink, text.as_slice());
     text.clear();
@@ -36,9 +34,7 @@ fn make_room<K: Sink>(sink: &mut K, text: &mut Buffer, count: usize) -> bool
     requires { count ≤ ROOM }
     ensures put { Passed K.gained result sink.old text.old.items [] sink.new text.new.items }
     ensures room { array_vec_len text.new + count ≤ ROOM }
-    ensures later { K.faults sink.old ≤ K.faults sink.new }
-    ensures stays { result ≡ true → K.faults sink.new ≡ K.faults sink.old }
-    ensures cause { result ≡ false → Rose (K.faults sink.old) (K.faults sink.new) }
+    ensures fares { Fares K.gained K.refused K.faults result sink.old sink.new }
 {
     if text.remaining_capacity() < count {
         flush(sink, text)
@@ -51,9 +47,7 @@ fn make_room<K: Sink>(sink: &mut K, text: &mut Buffer, count: usize) -> bool
 fn write_piece<K: Sink>(sink: &mut K, text: &mut Buffer, piece: &[u8]) -> bool
     requires { length piece.now ≤ ROOM }
     ensures put { Passed K.gained result sink.old text.old.items piece.now sink.new text.new.items }
-    ensures later { K.faults sink.old ≤ K.faults sink.new }
-    ensures stays { result ≡ true → K.faults sink.new ≡ K.faults sink.old }
-    ensures cause { result ≡ false → Rose (K.faults sink.old) (K.faults sink.new) }
+    ensures fares { Fares K.gained K.refused K.faults result sink.old sink.new }
 {
     if !make_room(sink, text, piece.len()) {
         return false;
@@ -65,9 +59,7 @@ fn write_piece<K: Sink>(sink: &mut K, text: &mut Buffer, piece: &[u8]) -> bool
 /// Writes text as it is.
 fn write_text<K: Sink>(sink: &mut K, text: &mut Buffer, bytes: &[u8]) -> bool
     ensures put { Passed K.gained result sink.old text.old.items bytes.now sink.new text.new.items }
-    ensures later { K.faults sink.old ≤ K.faults sink.new }
-    ensures stays { result ≡ true → K.faults sink.new ≡ K.faults sink.old }
-    ensures cause { result ≡ false → Rose (K.faults sink.old) (K.faults sink.new) }
+    ensures fares { Fares K.gained K.refused K.faults result sink.old sink.new }
 {
     let mut at: usize = 0;
     while at < bytes.len() {
@@ -84,9 +76,7 @@ fn write_text<K: Sink>(sink: &mut K, text: &mut Buffer, bytes: &[u8]) -> bool
 fn write_digits<K: Sink>(sink: &mut K, text: &mut Buffer, piece: &[u8]) -> bool
     requires { length piece.now ≤ PIECE }
     ensures put { Passed K.gained result sink.old text.old.items (hex piece.now) sink.new text.new.items }
-    ensures later { K.faults sink.old ≤ K.faults sink.new }
-    ensures stays { result ≡ true → K.faults sink.new ≡ K.faults sink.old }
-    ensures cause { result ≡ false → Rose (K.faults sink.old) (K.faults sink.new) }
+    ensures fares { Fares K.gained K.refused K.faults result sink.old sink.new }
 {
     let mut digits = [0u8; 2 * PIECE];
     let digits = &mut digits[..2 * piece.len()];
@@ -99,9 +89,7 @@ fn write_digits<K: Sink>(sink: &mut K, text: &mut Buffer, piece: &[u8]) -> bool
 /// Writes bytes in hexadecimal digits.
 fn write_hex<K: Sink>(sink: &mut K, text: &mut Buffer, bytes: &[u8]) -> bool
     ensures put { Passed K.gained result sink.old text.old.items (hex bytes.now) sink.new text.new.items }
-    ensures later { K.faults sink.old ≤ K.faults sink.new }
-    ensures stays { result ≡ true → K.faults sink.new ≡ K.faults sink.old }
-    ensures cause { result ≡ false → Rose (K.faults sink.old) (K.faults sink.new) }
+    ensures fares { Fares K.gained K.refused K.faults result sink.old sink.new }
 {
     let mut at: usize = 0;
     while at < bytes.len() {
@@ -117,9 +105,7 @@ fn write_hex<K: Sink>(sink: &mut K, text: &mut Buffer, bytes: &[u8]) -> bool
 /// Writes what stands at the end of an action's line.
 fn write_rest<K: Sink>(sink: &mut K, text: &mut Buffer, rest: Rest<'_>) -> bool
     ensures put { Passed K.gained result sink.old text.old.items (rest_text rest.entry) sink.new text.new.items }
-    ensures later { K.faults sink.old ≤ K.faults sink.new }
-    ensures stays { result ≡ true → K.faults sink.new ≡ K.faults sink.old }
-    ensures cause { result ≡ false → Rose (K.faults sink.old) (K.faults sink.new) }
+    ensures fares { Fares K.gained K.refused K.faults result sink.old sink.new }
 {
     match rest {
         Rest::Bytes([]) => write_piece(sink, text, b"-"),
@@ -133,9 +119,7 @@ fn write_rest<K: Sink>(sink: &mut K, text: &mut Buffer, rest: Rest<'_>) -> bool
 /// text was put.
 pub fn write_action<K: Sink>(sink: &mut K, action: Action<'_>) -> Put
     ensures put { PutWhole K.gained result sink.old (action_text (action_of action.entry)) sink.new }
-    ensures later { K.faults sink.old ≤ K.faults sink.new }
-    ensures stays { IfPut result (K.faults sink.new ≡ K.faults sink.old) }
-    ensures cause { result ≡ Put.Failed → Rose (K.faults sink.old) (K.faults sink.new) }
+    ensures fares { Fares K.gained K.refused K.faults (well_put result) sink.old sink.new }
 {
     let mut text = Buffer::new();
     let rest = push_words(&mut text, &action);
@@ -150,9 +134,7 @@ pub fn write_action<K: Sink>(sink: &mut K, action: Action<'_>) -> Put
 /// Writes the rest of an action's line and its end, and puts all that is gathered.
 fn finish<K: Sink>(sink: &mut K, text: &mut Buffer, rest: Rest<'_>) -> bool
     ensures put { Passed K.gained result sink.old text.old.items (rest_text rest.entry ++ 10 ∷ []) sink.new [] }
-    ensures later { K.faults sink.old ≤ K.faults sink.new }
-    ensures stays { result ≡ true → K.faults sink.new ≡ K.faults sink.old }
-    ensures cause { result ≡ false → Rose (K.faults sink.old) (K.faults sink.new) }
+    ensures fares { Fares K.gained K.refused K.faults result sink.old sink.new }
 {
     if !write_rest(sink, text, rest) {
         return false;

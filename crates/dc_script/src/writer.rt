@@ -1,6 +1,7 @@
 //! A sink to which the text of actions is written until a write fails.
-ghost use Rattle.std.specs.Prelude.{◌≡◌, ◌≤◌, Bool, true, false};
-ghost use Rattle.dc_event.specs.Causes.{Rose};
+ghost use Rattle.std.specs.Prelude.{◌≡◌, Bool, true, false};
+ghost use Rattle.dc_event.specs.Causes.{counted};
+ghost use Rattle.dc_script.specs.Fated.{Fated};
 ghost use Rattle.dc_script.specs.Text.{action_text};
 ghost use Rattle.dc_script.specs.View.{action_of};
 ghost use Rattle.dc_script.specs.Written.{Written};
@@ -14,10 +15,8 @@ pub(crate) struct Writer<K: Sink> {
     pub(crate) sink: K,
     pub(crate) start: u64,
     pub(crate) failed: bool,
-    /// The sink's count hasn't fallen.
-    pub(crate) ghost started: { start ≤ K.faults sink },
-    /// A write fails only where the sink's count rose.
-    pub(crate) ghost caused: { failed ≡ true → Rose start (K.faults sink) },
+    /// Where a write has failed, the sink's count is one higher, since nothing more was written.
+    pub(crate) ghost caused: { failed ≡ true → K.faults sink ≡ counted start },
     /// Where no write has failed, the count is what it was.
     pub(crate) ghost unfailed: { failed ≡ false → K.faults sink ≡ start },
 }
@@ -40,7 +39,7 @@ impl<K: Sink> Writer<K> {
     /// Gives the sink back.
     pub(crate) fn into_sink(self) -> K
         ensures sink { result ≡ self.sink }
-        ensures cause { self.failed ≡ true → Rose self.start (K.faults self.sink) }
+        ensures cause { self.failed ≡ true → K.faults self.sink ≡ counted self.start }
         ensures stays { self.failed ≡ false → K.faults self.sink ≡ self.start }
     {
         self.sink
@@ -49,6 +48,7 @@ impl<K: Sink> Writer<K> {
     /// Writes the text of an action, where no write has failed.
     pub(crate) fn write(&mut self, action: Action<'_>)
         ensures written { Written K.gained self.old.failed self.new.failed self.old.sink (action_text (action_of action.entry)) self.new.sink }
+        ensures fated { Fated K.gained K.refused K.faults self.old.failed self.new.failed self.old.sink self.new.sink }
         ensures start { self.new.start ≡ self.old.start }
         ensures stays { self.old.failed ≡ true → self.new.failed ≡ true }
     {

@@ -3,7 +3,7 @@ use Rattle.std.specs.Prelude.{◌≡◌, ℕ, ◌+◌, ◌≤◌, ◌<◌, Bool,
 use Rattle.std.specs.declared.option.Option.{Option}
 use Rattle.dc_model.specs.Event.{Event, IsEvent}
 use Rattle.dc_engine.specs.Automaton.{Automaton, state_after, GoesOn}
-use Rattle.dc_event.specs.Causes.{Rose}
+use Rattle.dc_event.specs.Causes.{counted}
 use Rattle.dc_event.specs.History.{Exchange, asked, gave, ended, failed, bad, done_all}
 use Rattle.dc_serve.specs.declared.Served.{Served}
 use Rattle.dc_serve.specs.declared.Served.TheVariants.{Finished, Spent, Ended, Failed, Bad}
@@ -35,20 +35,20 @@ Ends Failed finished count limit = (finished ≡ false) × (count < limit)
 Ends (Bad line) finished count limit = (finished ≡ false) × (count < limit)
 
 -- What stands where the world ended it.
-abbrev pub Justified : Served → (used_up : Type 0) → (broken : ℕ → Type 0) → (before now : ℕ) → Type 0
-Justified Finished used_up broken before now = Unit {0}
-Justified Spent used_up broken before now = Unit {0}
-Justified Ended used_up broken before now = used_up
-Justified Failed used_up broken before now = Rose before now
-Justified (Bad line) used_up broken before now = broken line
+abbrev pub Justified : Served → (used_up : Type 0) → (broken : ℕ → Type 0) → Type 0
+Justified Finished used_up broken = Unit {0}
+Justified Spent used_up broken = Unit {0}
+Justified Ended used_up broken = used_up
+Justified Failed used_up broken = Unit {0}
+Justified (Bad line) used_up broken = broken line
 
--- This holds where the world didn't fail.
-abbrev pub IfServed : Served → Type 0 → Type 0
-IfServed Finished P = P
-IfServed Spent P = P
-IfServed Ended P = P
-IfServed Failed P = Unit {0}
-IfServed (Bad line) P = P
+-- The world's count of faults behind a call: one more where the world failed, and else what it was.
+abbrev pub count_served : Served → ℕ → ℕ
+count_served Finished before = before
+count_served Spent before = before
+count_served Ended before = before
+count_served Failed before = counted before
+count_served (Bad line) before = before
 
 -- The machine went from start to final over these events, with the random words of number `first` on, and it ended so.
 pub record Ran {S : Type 0} (m : Automaton S) (words : ℕ → List ℕ) (first : ℕ) (start final : S) (limit : ℕ) (events : List Event) (answer : Served) : Type 0 where

@@ -5,7 +5,7 @@ ghost use Rattle.std.specs.Prelude.{◌≡◌, ℕ, ◌+◌, ◌^◌, ◌≤◌,
 ghost use Rattle.dc_model.specs.Draws.{draws_of};
 ghost use Rattle.dc_model.specs.Event.{Event};
 ghost use Rattle.dc_engine.specs.Automaton.{Automaton};
-ghost use Rattle.dc_serve.specs.Serve.{passes, Ran, IfServed, Justified};
+ghost use Rattle.dc_serve.specs.Serve.{passes, Ran, count_served, Justified};
 
 #[cfg(test)]
 mod tests;
@@ -46,9 +46,8 @@ pub fn serve<W: World, E: Engine>(
         W.history world.old (passes E.machine (draws_of draws.old.seed) draws.old.given (E.state engine.old) events result) world.new
         × Ran E.machine (draws_of draws.old.seed) draws.old.given (E.state engine.old) (E.state engine.new) (min turns (2 ^ 60)) events result
         × (draws.new ≡ record { seed = draws.old.seed; given = draws.old.given + length events }) }
-    ensures later { W.faults world.old ≤ W.faults world.new }
-    ensures stays { IfServed result (W.faults world.new ≡ W.faults world.old) }
-    ensures justified { Justified result (W.used_up world.new) (W.broken world.new) (W.faults world.old) (W.faults world.new) }
+    ensures count { W.faults world.new ≡ count_served result (W.faults world.old) }
+    ensures justified { Justified result (W.used_up world.new) (W.broken world.new) }
 {
     let limit = turns.min(MOST_EVENTS);
     engine.launch(world);

@@ -1,29 +1,113 @@
--- What contracts see of a world of sockets.
-use Rattle.std.specs.Prelude.{◌≡◌, ℕ, Bool, true, false, List, [], ◌∷◌, ◌++◌, refl}
-use Rattle.std.proofs.Common.{sym, ◌∙◌, ap}
+-- What contracts see of a world of sockets, and how the calls of its system explain what it exchanged with an engine.
+use Rattle.std.specs.Prelude.{◌≡◌, ℕ, Bool, false, if◌then◌else◌, List, [], ◌∷◌, ◌++◌, replicate, refl}
+use Rattle.std.proofs.Common.{◌∙◌, sym, ap, subst}
 use Rattle.std.specs.declared.option.Option.{Option}
-use Rattle.std.specs.declared.option.Option.TheVariants.{None, Some}
-use Rattle.dc_model.specs.Event.{Action, Event as ModelEvent, IsEvent}
-use Rattle.dc_event.specs.declared.answers.Heard.{Heard as Answer}
-use Rattle.dc_event.specs.declared.answers.Heard.TheVariants as answer
+use Rattle.std.specs.declared.option.Option.TheVariants.{None}
+use Rattle.dc_model.specs.Event.{Action, Event as ModelEvent, IsEvent, reply, conn_reply, conn_close, udp, tcp, link_write, link_close, line}
+use Rattle.dc_event.specs.declared.answers.Heard.{Heard}
+use Rattle.dc_event.specs.declared.answers.Heard.TheVariants as heard
+use Rattle.dc_event.specs.Answers.{count_heard}
 use Rattle.dc_event.specs.Causes.{counted}
-use Rattle.dc_event.specs.History.{Exchange, asked, answer_by, heard_of, done_all, last_in, kept_in, last-both, kept-both, last-done, kept-done}
+use Rattle.dc_event.specs.History.{Answer, gave, ended, failed, bad, Exchange, listened, asked, gathered, did, answer_by, done_all}
+use Rattle.dc_system.specs.Call.{Call}
+use Rattle.dc_sock.specs.ClientCalls.{Listens, Replies, WritesSeat, ClosesSeat}
+use Rattle.dc_sock.specs.Edge.{Edge, Hears, Fails}
+use Rattle.dc_sock.specs.Links.{OpensUdp, OpensTcp, WritesLink, ClosesLink}
+use Rattle.slab.specs.Slab.{get}
+use Rattle.dc_sock.specs.Log.{Lines}
+use Rattle.dc_sock.specs.SeatCalls.{free_seat}
 use Rattle.dc_sock.specs.Numbers.{Numbers}
 use Rattle.dc_sock.specs.declared.sockets.Turn.{Turn}
 use Rattle.dc_sock.specs.declared.sockets.Turn.TheVariants as turn
 
--- How often it failed, its last answer, the addresses that it keeps, whether a write of the log has failed since `next` was called last,
--- and the number of the next connection.
-pub record Shown : Type 0 where
+-- The system, how often the world failed, the port of clients, and the state of the sockets.
+pub record Shown (S : Type 0) : Type 0 where
+  pub system : S
   pub faults : ℕ
-  pub last : Option Answer
-  pub kept : Option (List ℕ × List ℕ)
-  pub log_failed : Bool
-  pub next_conn : ℕ
+  pub port : ℕ
+  pub edge : Edge
 
--- A world at first.
-abbrev pub fresh : Shown
-fresh = record { faults = 0; last = None; kept = None; log_failed = false; next_conn = 1 }
+-- A world at first: nobody is heard, no connection and no link stands, and nothing was gathered for the log.
+pub record IsFresh {S : Type 0} (over : S) (at : ℕ) (w : Shown S) : Type 0 where
+  pub system : w.system ≡ over
+  pub faults : w.faults ≡ 0
+  pub port : w.port ≡ at
+  pub hears : w.edge.hears ≡ false
+  pub retry : w.edge.retry ≡ None
+  pub from : w.edge.from ≡ 0 ∷ 0 ∷ 0 ∷ 0 ∷ []
+  pub links : (key : ℕ) → get w.edge.links key ≡ None
+  pub next_conn : w.edge.next_conn ≡ 1
+  pub seats : w.edge.seats ≡ replicate 24 free_seat
+  pub log : w.edge.log ≡ record { text = []; failed = false }
+  pub clock : w.edge.clock ≡ None
+
+-- The sockets on which clients are heard were made, at an address and port, and links are opened from another address.
+abbrev pub ListensAll : (addr : List ℕ) (port : ℕ) (send_from : List ℕ) (ok : Bool) → Edge → List Call → Edge → Type 0
+ListensAll addr port send_from ok a calls b =
+    Listens addr port a.hears calls ok b.hears × (b ≡ record a { hears = b.hears; from = if ok then send_from else a.from })
+
+-- These calls did this action.
+abbrev pub Makes : Action → Edge → List Call → Edge → Type 0
+Makes (reply addr port bytes) a calls b = Replies addr port bytes a.hears calls × (b ≡ a)
+Makes (conn_reply conn bytes) a calls b = WritesSeat conn bytes a.seats calls b.seats × (b ≡ record a { seats = b.seats })
+Makes (conn_close conn) a calls b = ClosesSeat conn a.seats calls b.seats × (b ≡ record a { seats = b.seats })
+Makes (udp link port server query) a calls b = OpensUdp link port server query a.from a.links calls b.links × (b ≡ record a { links = b.links })
+Makes (tcp link port server) a calls b = OpensTcp link port server a.from a.links calls b.links × (b ≡ record a { links = b.links })
+Makes (link_write link bytes) a calls b = WritesLink link bytes a.links calls b.links × (b ≡ record a { links = b.links })
+Makes (link_close link) a calls b = ClosesLink link a.links calls b.links × (b ≡ record a { links = b.links })
+Makes (line text) a calls b = Lines text a.log calls b.log × (b ≡ record a { log = b.log })
+
+-- What the world said when it was asked for an event is what these calls gave.
+abbrev pub Gave : (wake : Option ℕ) → Answer → Edge → List Call → Edge → Type 0
+Gave wake (gave e) a calls b = Hears wake e a calls b
+Gave wake ended a calls b = ⊥
+Gave wake failed a calls b = Fails wake a calls b
+Gave wake (bad number) a calls b = ⊥
+
+-- The count of faults behind it.
+abbrev pub faults_with : Answer → ℕ → ℕ
+faults_with (gave e) faults = faults
+faults_with ended faults = faults
+faults_with failed faults = counted faults
+faults_with (bad number) faults = faults
+
+-- These calls explain this exchange. No event is gathered unasked.
+abbrev pub Explains : {S : Type 0} → Exchange → Shown S → List Call → Shown S → Type 0
+Explains (listened addr send_from ok) a calls b =
+    ListensAll addr a.port send_from ok a.edge calls b.edge
+    × (b ≡ record a { system = b.system; edge = b.edge; faults = if ok then a.faults else counted a.faults })
+Explains (asked wake answer) a calls b =
+    Gave wake answer a.edge calls b.edge
+    × (b ≡ record a { system = b.system; edge = b.edge; faults = faults_with answer a.faults })
+Explains (gathered e) a calls b = ⊥
+Explains (did action) a calls b = Makes action a.edge calls b.edge × (b ≡ record a { system = b.system; edge = b.edge })
+
+-- These exchanges took place, one after the other, and each is explained by the calls that were made meanwhile.
+abbrev pub Explained : {S : Type 0} → (S → List Call → S → Type 0) → Shown S → List Exchange → Shown S → Type 0
+Explained {S} called a [] b = b ≡ a
+Explained {S} called a (x ∷ xs) b =
+    (m : Shown S) × (((calls : List Call) × (called a.system calls m.system × Explains x a calls m)) × Explained called m xs b)
+
+-- These actions were done, and nothing else was exchanged.
+abbrev pub ActedBy : {S : Type 0} → (S → List Call → S → Type 0) → Shown S → List Action → Shown S → Type 0
+ActedBy called a actions b = Explained called a (done_all actions) b
+
+done_append : (xs ys : List Action) → done_all (xs ++ ys) ≡ done_all xs ++ done_all ys
+done_append [] ys = refl
+done_append (x ∷ xs) ys = ap (λ l. did x ∷ l) (done_append xs ys)
+
+-- The laws of a world.
+module _ {S : Type 0} (called : S → List Call → S → Type 0) where
+  pub Explained-both : (a b c : Shown S) (xs ys : List Exchange) → Explained called a xs b → Explained called b ys c → Explained called a (xs ++ ys) c
+  Explained-both a b c [] ys p q = rw (← p) q
+  Explained-both a b c (x ∷ xs) ys p q = (p.0, (p.1.0, Explained-both p.0 b c xs ys p.1.1 q))
+
+  pub ActedBy-both : (a b c : Shown S) (xs ys : List Action) → ActedBy called a xs b → ActedBy called b ys c → ActedBy called a (xs ++ ys) c
+  ActedBy-both a b c xs ys p q = rw (done_append xs ys) (Explained-both a b c (done_all xs) (done_all ys) p q)
+
+  pub ActedBy-faults : (a b : Shown S) (xs : List Action) → ActedBy called a xs b → b.faults ≡ a.faults
+  ActedBy-faults a b [] p = ap (λ (s : Shown S). s.faults) p
+  ActedBy-faults a b (x ∷ xs) p = ActedBy-faults p.0 b xs p.1.1 ∙ ap (λ (s : Shown S). s.faults) p.1.0.1.1.1
 
 -- What a turn leaves in the inbox where it gives an event.
 abbrev pub TurnGives : Turn → ModelEvent → Type 0
@@ -37,71 +121,41 @@ TurnNumbers turn.Event e before after = Numbers e.kind before after e.id
 TurnNumbers turn.Nothing e before after = after ≡ before
 TurnNumbers turn.Failed e before after = after ≡ before
 
--- An action changes nothing that is shown, but that it may fail to write the log.
-pub record Acted (old : Shown) (actions : List Action) (new : Shown) : Type 0 where
-  pub same : new ≡ record old { log_failed = new.log_failed }
-  pub stays : old.log_failed ≡ true → new.log_failed ≡ true
-
-pub Acted-none : (a : Shown) → Acted a [] a
-Acted-none a = record { same = refl; stays = λ p. p }
-
-pub Acted-both : (a b c : Shown) (xs ys : List Action) → Acted a xs b → Acted b ys c → Acted a (xs ++ ys) c
-Acted-both a b c xs ys p q = record {
-  same = q.same ∙ ap {A = Shown} {B = Shown} (λ s. record s { log_failed = c.log_failed }) p.same;
-  stays = λ h. q.stays (p.stays h);
-}
-
-pub Acted-faults : (a b : Shown) (actions : List Action) → Acted a actions b → b.faults ≡ a.faults
-Acted-faults a b actions p = ap (λ s. s.faults) p.same
-
--- What passed, of which no more is told than the last answer and the addresses that are kept.
-pub record Passed (old : Shown) (history : List Exchange) (new : Shown) : Type 0 where
-  pub answered : new.last ≡ last_in old.last history
-  pub kept_addresses : new.kept ≡ kept_in old.kept history
-
-pub Passed-none : (a : Shown) → Passed a [] a
-Passed-none a = record { answered = refl; kept_addresses = refl }
-
-pub Passed-both : (a b c : Shown) (g h : List Exchange) → Passed a g b → Passed b h c → Passed a (g ++ h) c
-Passed-both a b c g h p q = record {
-  answered = q.answered ∙ ap (λ l. last_in l h) p.answered ∙ sym (last-both a.last g h);
-  kept_addresses = q.kept_addresses ∙ ap (λ l. kept_in l h) p.kept_addresses ∙ sym (kept-both a.kept g h);
-}
-
--- Where a list was acted, that is all that passed.
-pub Acted-passed : (a b : Shown) (xs : List Action) → Acted a xs b → Passed a (done_all xs) b
-Acted-passed a b xs p = record {
-  answered = ap (λ s. s.last) p.same ∙ sym (last-done a.last xs);
-  kept_addresses = ap (λ s. s.kept) p.same ∙ sym (kept-done a.kept xs);
-}
-
-answered_by : (a : Answer) (e : ModelEvent) → a ≡ heard_of (answer_by a e)
-answered_by answer.Event e = refl
-answered_by answer.End e = refl
-answered_by answer.Failed e = refl
-answered_by (answer.Bad line) e = refl
-
--- A call of `next` keeps its answer.
-pub Passed-next : (a b : Shown) (wake : Option ℕ) (heard : Answer) (e : ModelEvent) → b.last ≡ Some heard → b.kept ≡ a.kept → Passed a (asked wake (answer_by heard e) ∷ []) b
-Passed-next a b wake heard e last kept = record { answered = last ∙ ap (λ x. Some x) (answered_by heard e); kept_addresses = kept }
-
 -- What `next` leaves in the inbox: an event within its bounds, or it failed. It never ends, and there are no lines.
-abbrev pub Gives : Answer → ModelEvent → Type 0
-Gives answer.Event e = IsEvent e
-Gives answer.End e = ⊥
-Gives answer.Failed e = Unit {0}
-Gives (answer.Bad line) e = ⊥
-
--- The count of faults behind an answer.
-abbrev pub faults_behind : Answer → ℕ → ℕ
-faults_behind answer.Event faults = faults
-faults_behind answer.End faults = faults
-faults_behind answer.Failed faults = counted faults
-faults_behind (answer.Bad line) faults = faults
+abbrev pub Gives : Heard → ModelEvent → Type 0
+Gives heard.Event e = IsEvent e
+Gives heard.End e = ⊥
+Gives heard.Failed e = Unit {0}
+Gives (heard.Bad number) e = ⊥
 
 -- The number of the next connection is one more behind a connection that came, which has that number.
-abbrev pub AnswerNumbers : Answer → ModelEvent → (before after : ℕ) → Type 0
-AnswerNumbers answer.Event e before after = Numbers e.kind before after e.id
-AnswerNumbers answer.End e before after = after ≡ before
-AnswerNumbers answer.Failed e before after = after ≡ before
-AnswerNumbers (answer.Bad line) e before after = after ≡ before
+abbrev pub AnswerNumbers : Heard → ModelEvent → (before after : ℕ) → Type 0
+AnswerNumbers heard.Event e before after = Numbers e.kind before after e.id
+AnswerNumbers heard.End e before after = after ≡ before
+AnswerNumbers heard.Failed e before after = after ≡ before
+AnswerNumbers (heard.Bad number) e before after = after ≡ before
+
+-- One exchange, and one action.
+pub explained_from : {S : Type 0} (called : S → List Call → S → Type 0) (a now b : Shown S) (x : Exchange) (calls : List Call) → a ≡ now → called a.system calls b.system → Explains x a calls b → Explained called now (x ∷ []) b
+explained_from {S} called a now b x calls e p q = subst (λ (w : Shown S). Explained called w (x ∷ []) b) e (b, ((calls, (p, q)), refl))
+
+pub acted_from : {S : Type 0} (called : S → List Call → S → Type 0) (a now b : Shown S) (x : Action) (calls : List Call) → a ≡ now → called a.system calls b.system → Makes x a.edge calls b.edge → b ≡ record a { system = b.system; edge = b.edge } → ActedBy called now (x ∷ []) b
+acted_from {S} called a now b x calls e p q s = explained_from called a now b (did x) calls e p (q, s)
+
+-- Listening failed.
+pub deaf_from : {S : Type 0} (called : S → List Call → S → Type 0) (a now : Shown S) (addr send_from : List ℕ) (system : S) (edge : Edge) (faults : ℕ) (calls : List Call) → a ≡ now → called a.system calls system → ListensAll addr a.port send_from false a.edge calls edge → faults ≡ counted a.faults → Explained called now (listened addr send_from false ∷ []) (record a { system = system; edge = edge; faults = faults })
+deaf_from {S} called a now addr send_from system edge faults calls e p l f =
+    explained_from called a now (record a { system = system; edge = edge; faults = faults }) (listened addr send_from false) calls e p
+    (l, ap (λ (n : ℕ). record a { system = system; edge = edge; faults = n }) f)
+
+faults_same : (said : Heard) (e : ModelEvent) (faults : ℕ) → count_heard said faults ≡ faults_with (answer_by said e) faults
+faults_same heard.Event e faults = refl
+faults_same heard.End e faults = refl
+faults_same heard.Failed e faults = refl
+faults_same (heard.Bad number) e faults = refl
+
+-- An answer of `next`, which is counted behind the calls.
+pub asked_from : {S : Type 0} (called : S → List Call → S → Type 0) (a now b : Shown S) (wake : Option ℕ) (said : Heard) (e : ModelEvent) (system : S) (edge : Edge) (calls : List Call) → a ≡ now → called a.system calls system → Gave wake (answer_by said e) a.edge calls edge → b ≡ record a { system = system; edge = edge; faults = count_heard said a.faults } → Explained called now (asked wake (answer_by said e) ∷ []) b
+asked_from {S} called a now b wake said e system edge calls same p given noted =
+    subst (λ (w : Shown S). Explained called now (asked wake (answer_by said e) ∷ []) w) (sym (noted ∙ ap (λ (n : ℕ). record a { system = system; edge = edge; faults = n }) (faults_same said e a.faults)))
+    (explained_from called a now (record a { system = system; edge = edge; faults = faults_with (answer_by said e) a.faults }) (asked wake (answer_by said e)) calls same p (given, refl))

@@ -1,25 +1,25 @@
 //! The world of sockets.
-ghost use Rattle.std.specs.Prelude.{◌≡◌, ◌≤◌, ℕ, List, [], ◌∷◌, ◌++◌, IfOk, Some, true, false};
-ghost use Rattle.std.specs.declared.option.Option.{Option};
+ghost use Rattle.std.specs.Prelude.{◌≡◌, ◌≤◌, List, [], ◌∷◌, IfOk, None, true, false, refl, is_ok, if◌then◌else◌};
 ghost use Rattle.dc_model.specs.Event.{IsEvent};
-ghost use Rattle.dc_event.specs.Answers.{IfHeard, Warrants};
-ghost use Rattle.dc_event.specs.Causes.{Rose, counted};
-ghost use Rattle.dc_event.specs.History.{asked, answer_by};
-ghost use Rattle.dc_sock.specs.World.{Shown, Acted, Acted-none, Acted-both, Acted-faults, Passed, Passed-none, Passed-both, Acted-passed, Gives, fresh, faults_behind, AnswerNumbers};
+ghost use Rattle.dc_event.specs.Answers.{count_heard, Warrants};
+ghost use Rattle.dc_event.specs.Causes.{counted, count_by};
+ghost use Rattle.dc_event.specs.History.{listened, asked, answer_by};
+ghost use Rattle.dc_system.specs.Call.{Call};
+ghost use Rattle.dc_sock.specs.Edge.{edge_of};
+ghost use Rattle.dc_sock.specs.World.{Shown, IsFresh, Explained, Explained-both, ActedBy, ActedBy-both, ActedBy-faults, Gives, Gave, AnswerNumbers};
 
+use crate::clients::reply;
 use crate::sockets::{Sockets, Turn};
 use dc_event::{Effects, Heard, Inbox, World, WorldFailed};
+use dc_system::System;
 use std::alloc::{AllocError, Global};
-use std::io::Eprint;
 use std::marker::Model;
-use std::net::Net;
 use std::sync::Wait;
-use std::time::Clock;
 
 /// The port of name servers.
 const DNS_PORT: u16 = 53;
 
-/// A world over UDP and TCP sockets and the clock of its runtime. Lines of the log go to standard error.
+/// A world over UDP and TCP sockets, the clock and the log of a system.
 ///
 /// It hears clients at the address and port that it listens on, and asks servers on port 53. Moments are milliseconds since 1970. At most
 /// 24 connections of clients and 224 links are open at once; a further connection is closed, and a further link gives nothing. A link
@@ -27,71 +27,67 @@ const DNS_PORT: u16 = 53;
 /// client's connection doesn't take wait, 65537 at most; a connection for which more would wait is closed as `ConnDown`. The log is
 /// gathered, and written before the world waits. All memory is taken when the world is made.
 #[derive(Drop)]
-pub struct SocketWorld<R> {
+pub struct SocketWorld<R, S> {
     rt: R,
+    system: S,
     port: u16,
     sockets: Sockets,
     faults: u64,
-    last: Option<Heard>,
-    kept: Option<([u8; 4], [u8; 4])>,
 }
 
-impl<R> Model for SocketWorld<R> {
+impl<R, S> Model for SocketWorld<R, S> {
+    ghost use Rattle.std.specs.Prelude.{None};
+    ghost use Rattle.dc_sock.specs.Edge.{edge_of};
     ghost use Rattle.dc_sock.specs.World.{Shown};
 
-    ghost Value = { Shown };
+    ghost Value = { Shown S };
 
     ghost view = { λ a. record {
+      system = a.system;
       faults = a.faults;
-      last = a.last;
-      kept = a.kept;
-      log_failed = a.sockets.log.failed;
-      next_conn = a.sockets.clients.next;
+      port = a.port;
+      edge = edge_of None a.sockets;
     } };
 }
 
-impl<R> SocketWorld<R> {
+impl<R, S> SocketWorld<R, S> {
     /// A world that will hear clients on port 53.
-    pub fn new(rt: R, alloc: Global) -> Result<SocketWorld<R>, AllocError>
+    pub fn new(rt: R, system: S, alloc: Global) -> Result<SocketWorld<R, S>, AllocError>
     where
         R: Drop,
-        ensures { IfOk result (λ world. world ≡ fresh) }
+        S: Drop,
+        ensures { IfOk result (IsFresh system 53) }
     {
-        SocketWorld::on_port(rt, alloc, DNS_PORT)
+        SocketWorld::on_port(rt, system, alloc, DNS_PORT)
     }
 
     /// A world that will hear clients on this port.
-    pub fn on_port(rt: R, alloc: Global, port: u16) -> Result<SocketWorld<R>, AllocError>
+    pub fn on_port(
+        rt: R,
+        system: S,
+        alloc: Global,
+        port: u16,
+    ) -> Result<SocketWorld<R, S>, AllocError>
     where
         R: Drop,
-        ensures { IfOk result (λ world. world ≡ fresh) }
+        S: Drop,
+        ensures { IfOk result (IsFresh system port) }
     {
         let sockets = Sockets::new(alloc)?;
         Ok(SocketWorld {
             rt,
+            system,
             port,
             sockets,
             faults: 0,
-            last: None,
-            kept: None,
         })
-    }
-
-    /// Keeps an answer, and counts it where it is a fault.
-    fn note(&mut self, answer: Heard)
-        ensures later { self.old.faults ≤ self.new.faults }
-        ensures note { self.new ≡ record self.old { faults = faults_behind answer self.old.faults; last = Some answer } }
-    {
-        if let Heard::Failed = answer {
-            self.faults = self.faults.saturating_add(1);
-        }
-        self.last = Some(answer);
     }
 }
 
 /// Takes turns until one gives an event or fails.
-fn hear<R: Net + Wait + Clock + Eprint>(
+fn hear<R: Wait, S: System>(
     rt: &R,
+    system: &mut S,
     sockets: &mut Sockets,
     wake: Option<u64>,
     inbox: &mut Inbox,
@@ -100,9 +96,10 @@ fn hear<R: Net + Wait + Clock + Eprint>(
     ensures numbers { AnswerNumbers result inbox.new sockets.old.clients.next sockets.new.clients.next }
     ensures failure { sockets.old.log.failed ≡ true → result ≡ Heard.Failed }
     ensures log { sockets.new.log.failed ≡ false }
+    ensures gave { (calls : List Call) × (S.called system.old calls system.new × Gave wake (answer_by result inbox.new) (edge_of None sockets.old) calls (edge_of None sockets.new)) }
 {
     for _ in rt.forever() {
-        match sockets.turn(rt, wake, inbox) {
+        match sockets.turn(system, wake, inbox) {
             Turn::Event => return Heard::Event,
             Turn::Failed => return Heard::Failed,
             Turn::Nothing => {}
@@ -111,26 +108,70 @@ fn hear<R: Net + Wait + Clock + Eprint>(
     unreachable!()
 }
 
-impl<R: Net + Eprint> Effects for SocketWorld<R> {
-    ghost acted = { Acted };
+impl<R, S: System> SocketWorld<R, S> {
+    /// Counts an answer where it is a fault.
+    fn note(&mut self, answer: Heard)
+        ensures note { self.new ≡ record self.old { faults = count_heard answer self.old.faults } }
+    {
+        if let Heard::Failed = answer {
+            self.faults = self.faults.saturating_add(1);
+        }
+    }
+
+    /// Listens for clients, and answers whether that went well.
+    fn begin(&mut self, addr: [u8; 4], send_from: [u8; 4]) -> bool
+        ensures listened { Explained S.called self.old (listened addr send_from result ∷ []) self.new }
+        ensures faults { self.new.faults ≡ (if result then self.old.faults else counted self.old.faults) }
+    {
+        if !self
+            .sockets
+            .listen(&mut self.system, addr, self.port, send_from)
+        {
+            self.faults = self.faults.saturating_add(1);
+            return false;
+        }
+        true
+    }
+
+    /// Tells the next event, or that the world failed.
+    fn tell(&mut self, wake: Option<u64>, inbox: &mut Inbox) -> Heard
+    where
+        R: Wait,
+        ensures bounds { Gives result inbox.new }
+        ensures told { Explained S.called self.old (asked wake (answer_by result inbox.new) ∷ []) self.new }
+        ensures faults { self.new.faults ≡ count_heard result self.old.faults }
+        ensures log { self.old.edge.log.failed ≡ true → result ≡ Heard.Failed }
+        ensures numbers { AnswerNumbers result inbox.new self.old.edge.next_conn self.new.edge.next_conn }
+    {
+        let answer = hear(&self.rt, &mut self.system, &mut self.sockets, wake, inbox);
+        self.note(answer);
+        answer
+    }
+}
+
+impl<R, S: System> Effects for SocketWorld<R, S> {
+    ghost acted = { ActedBy S.called };
 
     fn reply(&mut self, addr: [u8; 4], port: u16, bytes: &[u8]) {
-        self.sockets.clients.reply(addr, port, bytes);
+        let hears = self.sockets.clients.hears();
+        reply(&mut self.system, hears, addr, port, bytes);
     }
 
     fn conn_reply(&mut self, conn: u64, bytes: &[u8]) {
         let sockets = &mut self.sockets;
-        sockets.clients.conn_reply(&mut sockets.watch, conn, bytes);
+        sockets
+            .clients
+            .conn_reply(&mut self.system, &mut sockets.watch, conn, bytes);
     }
 
     fn conn_close(&mut self, conn: u64) {
-        self.sockets.clients.conn_close(conn);
+        self.sockets.clients.conn_close(&mut self.system, conn);
     }
 
     fn udp(&mut self, link: u64, local_port: u16, server: [u8; 4], query: &[u8]) {
         let sockets = &mut self.sockets;
         sockets.links.udp(
-            &self.rt,
+            &mut self.system,
             &mut sockets.watch,
             link,
             local_port,
@@ -141,31 +182,37 @@ impl<R: Net + Eprint> Effects for SocketWorld<R> {
 
     fn tcp(&mut self, link: u64, local_port: u16, server: [u8; 4]) {
         let sockets = &mut self.sockets;
-        sockets
-            .links
-            .tcp(&self.rt, &mut sockets.watch, link, local_port, server);
+        sockets.links.tcp(
+            &mut self.system,
+            &mut sockets.watch,
+            link,
+            local_port,
+            server,
+        );
     }
 
     fn link_write(&mut self, link: u64, bytes: &[u8]) {
         let sockets = &mut self.sockets;
-        sockets.links.write(&mut sockets.watch, link, bytes);
+        sockets
+            .links
+            .write(&mut self.system, &mut sockets.watch, link, bytes);
     }
 
     fn link_close(&mut self, link: u64) {
-        self.sockets.links.close(link);
+        self.sockets.links.close(&mut self.system, link);
     }
 
     fn line(&mut self, text: &[u8]) {
-        self.sockets.log.line(&self.rt, text);
+        self.sockets.log.line(&mut self.system, text);
     }
 
-    ghost acted_none = { Acted-none };
+    ghost acted_none = { λ a. refl };
 
-    ghost acted_both = { Acted-both };
+    ghost acted_both = { ActedBy-both S.called };
 }
 
-impl<R: Net + Wait + Clock + Eprint> World for SocketWorld<R> {
-    ghost history = { Passed };
+impl<R: Wait, S: System> World for SocketWorld<R, S> {
+    ghost history = { Explained S.called };
 
     ghost faults = { λ w. w.faults };
 
@@ -175,44 +222,36 @@ impl<R: Net + Wait + Clock + Eprint> World for SocketWorld<R> {
     /// It has no lines.
     ghost broken = { λ w number. ⊥ };
 
-    fn listen(&mut self, addr: [u8; 4], send_from: [u8; 4]) -> Result<(), WorldFailed> {
-        let listening = self.sockets.listen(&self.rt, addr, self.port, send_from);
-        if listening.is_err() {
-            self.faults = self.faults.saturating_add(1);
-            return Err(WorldFailed);
+    fn listen(&mut self, addr: [u8; 4], send_from: [u8; 4]) -> Result<(), WorldFailed>
+        ensures history { Explained S.called self.old (listened addr send_from (is_ok result) ∷ []) self.new }
+        ensures count { self.new.faults ≡ count_by result self.old.faults }
+    {
+        if self.begin(addr, send_from) {
+            Ok(())
+        } else {
+            Err(WorldFailed)
         }
-        self.kept = Some((addr, send_from));
-        Ok(())
     }
 
     fn next(&mut self, wake: Option<u64>, inbox: &mut Inbox) -> Heard
-        ensures history { Passed self.old (asked wake (answer_by result inbox.new) ∷ []) self.new }
-        ensures later { self.old.faults ≤ self.new.faults }
-        ensures stays { IfHeard result (self.new.faults ≡ self.old.faults) }
-        ensures warrant { Warrants result inbox.new ⊥ (λ number. ⊥) self.old.faults self.new.faults }
-        ensures same { self.new ≡ record self.old {
-          faults = faults_behind result self.old.faults;
-          last = Some result;
-          log_failed = false;
-          next_conn = self.new.next_conn;
-        } }
-        ensures log { self.old.log_failed ≡ true → result ≡ Heard.Failed }
-        ensures numbers { AnswerNumbers result inbox.new self.old.next_conn self.new.next_conn }
+        ensures history { Explained S.called self.old (asked wake (answer_by result inbox.new) ∷ []) self.new }
+        ensures count { self.new.faults ≡ count_heard result self.old.faults }
+        ensures warrant { Warrants result inbox.new ⊥ (λ number. ⊥) }
+        ensures log { self.old.edge.log.failed ≡ true → result ≡ Heard.Failed }
+        ensures numbers { AnswerNumbers result inbox.new self.old.edge.next_conn self.new.edge.next_conn }
     {
-        let answer = hear(&self.rt, &mut self.sockets, wake, inbox);
-        self.note(answer);
-        answer
+        self.tell(wake, inbox)
     }
 
     fn faults(&self) -> u64 {
         self.faults
     }
 
-    ghost history_none = { Passed-none };
+    ghost history_none = { λ a. refl };
 
-    ghost history_both = { Passed-both };
+    ghost history_both = { Explained-both S.called };
 
-    ghost acted_history = { Acted-passed };
+    ghost acted_history = { λ a b xs p. p };
 
-    ghost acted_faults = { Acted-faults };
+    ghost acted_faults = { ActedBy-faults S.called };
 }

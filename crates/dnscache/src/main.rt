@@ -7,8 +7,9 @@ use crate::report::{exit_code, report};
 use dc_commands::{Status, dnscache};
 use dc_config::{Env, HostFiles};
 use dc_event::{ReaderSource, World, WriterSink};
+use dc_os::Os;
 use dc_sock::SocketWorld;
-use std::alloc::Global;
+use std::alloc::{AllocError, Global};
 use std::env::{self, VarError};
 use std::io;
 use std::process::ExitCode;
@@ -64,8 +65,14 @@ fn run<W: World>(rt: &HostRuntime, world: &mut W) -> Status {
     )
 }
 
+/// The world of the system's own sockets.
+fn world(rt: &HostRuntime) -> Result<SocketWorld<&HostRuntime, Os<&HostRuntime>>, AllocError> {
+    let system = Os::new(rt, rt.alloc())?;
+    SocketWorld::new(rt, system, rt.alloc())
+}
+
 fn main(rt: HostRuntime) -> ExitCode {
-    let status = match SocketWorld::new(&rt, rt.alloc()) {
+    let status = match world(&rt) {
         Ok(mut world) => run(&rt, &mut world),
         Err(_) => Status::NoMemory,
     };

@@ -59,7 +59,7 @@ events-preserved g c =
             c.step.ensures.state
             (rw c.step.ensures.state (g.met.E.Engine.counts _ _ _));
         drawn = rw kept.drawn at c.next-words.ensures.given ∙ ap (λ n. record { seed = c.args.draws.now.seed; given = n }) one_more;
-        stays = laws.acted_faults _ _ _ c.step.ensures.acted ∙ c.in-Event.ensures.stays ∙ kept.stays;
+        stays = laws.acted_faults _ _ _ c.step.ensures.acted ∙ c.in-Event.ensures.count ∙ kept.stays;
         below = omega (arith, kept.below, c.if-handled-limit.false);
       },
     )

@@ -9,6 +9,7 @@ use Rattle.dc_config.specs.Conf.{config_of, conf_of}
 use Rattle.dc_config.specs.declared.error.ConfigError.{ConfigError}
 use Rattle.dc_config.specs.declared.variables.Variables.{Variables}
 use Rattle.dc_config.proofs.Steps.{refused, refuses, refuses-along, exits}
+use Rattle.dc_config.proofs.Asking.{fares_exits, asked_behind}
 use Rattle.dc_config.proofs.Zoned.{conf_refused, conf_is}
 use Rattle.dc_config.proofs.conf.load.Goals as goal
 
@@ -42,3 +43,12 @@ pub returns-clause-conf : goal.returns-clause-conf
 returns-clause-conf g c = λ t e.
     conf_is c.args.env.now t c.in_ok-read.read (sym c.in_ok-read.ensures) ∙ ap (λ r. and_then (with_zones t c.in_ok-read.read) r) (c.in_ok-zones.ensures.zones t e)
     ∙ ap (λ r. and_then (with_permits c.in_ok-read.read c.in_ok-zones.zones) r) (c.in_ok-permit.ensures.permit t (c.in_ok-zones.ensures.same ∙ e))
+
+pub returns-in_err-permit-clause-fares : goal.returns-in_err-permit-clause-fares
+returns-in_err-permit-clause-fares g c =
+    let p = err_from_is_err_and c.from_residual-in_err-permit.result c.from_residual-in_err-permit.ensures.1 in
+    fares_exits g.F.Files.asked g.met.F.Files.asked_both g.F.Files.refused g.F.Files.faults _ _ _ _ _ p.0 _ p.1 p.2 c.in_ok-zones.ensures.asked.asks c.in_ok-zones.ensures.fares
+    c.in_err-permit.ensures.fares
+
+pub returns-clause-asked : goal.returns-clause-asked
+returns-clause-asked g c = asked_behind g.F.Files.tree g.F.Files.asked g.met.F.Files.asked_both _ _ _ _ c.in_ok-zones.ensures.asked c.in_ok-permit.ensures.asked
