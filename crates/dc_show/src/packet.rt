@@ -1,8 +1,7 @@
 //! The text of a whole packet.
 ghost use Rattle.std.specs.Prelude.{◌≡◌, ℕ, ◌≤◌, ◌++◌, ◌==◌, ◌&&◌, length, flat_map, codes, true, Some};
 ghost use Rattle.dc_model.specs.Message as model;
-ghost use Rattle.dc_event.specs.Answers.{IfPut};
-ghost use Rattle.dc_event.specs.Causes.{Rose};
+ghost use Rattle.dc_event.specs.Answers.{count_put};
 ghost use Rattle.dc_packet.specs.Data.{body_of};
 ghost use Rattle.dc_packet.specs.Rows.{AreRowsOf, named_section};
 ghost use Rattle.dc_writer.specs.Written.{Wrote, PutWhole};
@@ -261,8 +260,7 @@ pub fn show_packet<K: Sink>(
     requires packet { length packet.now ≤ 65535 }
     requires table { AreRowsOf packet.now table.now }
     ensures whole { (m : model.Message) → model.message_of packet.now ≡ Some m → PutWhole K.gained result sink.old (packet_text name.now qtype packet.now m) sink.new }
-    ensures stays { IfPut result (K.faults sink.new ≡ K.faults sink.old) }
-    ensures failed { result ≡ Put.Failed → Rose (K.faults sink.old) (K.faults sink.new) }
+    ensures count { K.faults sink.new ≡ count_put result (K.faults sink.old) }
 {
     let message = Message::new(packet, table);
     let mut writer = Writer::new();

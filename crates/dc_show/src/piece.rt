@@ -1,7 +1,6 @@
 //! Pieces of texts.
 ghost use Rattle.std.specs.Prelude.{◌≡◌, ℕ, ◌∷◌, ◌++◌, [], length, decimal};
-ghost use Rattle.dc_event.specs.Answers.{IfPut};
-ghost use Rattle.dc_event.specs.Causes.{Rose};
+ghost use Rattle.dc_event.specs.Answers.{count_put};
 ghost use Rattle.dc_writer.specs.Written.{Wrote, PutWhole};
 ghost use Rattle.dc_lookup.specs.Text.{address_text, dot, line_end, mx_line};
 
@@ -62,8 +61,7 @@ pub(crate) fn write_mx<K: Sink>(writer: &mut Writer, sink: &mut K, preference: u
 /// Writes an address with a space behind it and a line end, and answers how many bytes that were. Where the sink fails a front of the text was put.
 pub fn show_address<K: Sink>(addr: [u8; 4], sink: &mut K) -> Put
     ensures whole { PutWhole K.gained result sink.old (address_text addr ++ 32 ∷ line_end) sink.new }
-    ensures stays { IfPut result (K.faults sink.new ≡ K.faults sink.old) }
-    ensures failed { result ≡ Put.Failed → Rose (K.faults sink.old) (K.faults sink.new) }
+    ensures count { K.faults sink.new ≡ count_put result (K.faults sink.old) }
 {
     let mut writer = Writer::new();
     write_octets(&mut writer, sink, &addr);

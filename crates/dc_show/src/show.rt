@@ -1,8 +1,7 @@
 //! The texts of the tools that look at answers alone.
 ghost use Rattle.std.specs.Prelude.{◌≡◌, ◌≤◌, length, Some};
 ghost use Rattle.dc_model.specs.Message as model;
-ghost use Rattle.dc_event.specs.Answers.{IfPut};
-ghost use Rattle.dc_event.specs.Causes.{Rose};
+ghost use Rattle.dc_event.specs.Answers.{count_put};
 ghost use Rattle.dc_packet.specs.Rows.{AreRowsOf};
 ghost use Rattle.dc_writer.specs.Written.{Wrote, PutWhole};
 ghost use Rattle.dc_lookup.specs.Text.{ip_text, host_text, name_text, txt_text, mx_text};
@@ -28,8 +27,7 @@ pub fn show_ip<K: Sink>(
     requires packet { length packet.now ≤ 65535 }
     requires table { AreRowsOf packet.now table.now }
     ensures whole { (m : model.Message) → model.message_of packet.now ≡ Some m → PutWhole K.gained result sink.old (ip_text m) sink.new }
-    ensures stays { IfPut result (K.faults sink.new ≡ K.faults sink.old) }
-    ensures failed { result ≡ Put.Failed → Rose (K.faults sink.old) (K.faults sink.new) }
+    ensures count { K.faults sink.new ≡ count_put result (K.faults sink.old) }
 {
     let message = Message::new(packet, table);
     let mut writer = Writer::new();
@@ -59,8 +57,7 @@ pub fn show_name<K: Sink>(
     requires packet { length packet.now ≤ 65535 }
     requires table { AreRowsOf packet.now table.now }
     ensures whole { (m : model.Message) → model.message_of packet.now ≡ Some m → PutWhole K.gained result sink.old (name_text m) sink.new }
-    ensures stays { IfPut result (K.faults sink.new ≡ K.faults sink.old) }
-    ensures failed { result ≡ Put.Failed → Rose (K.faults sink.old) (K.faults sink.new) }
+    ensures count { K.faults sink.new ≡ count_put result (K.faults sink.old) }
 {
     let message = Message::new(packet, table);
     let host = first_host(&message);
@@ -82,8 +79,7 @@ pub fn show_txt<K: Sink>(
     requires packet { length packet.now ≤ 65535 }
     requires table { AreRowsOf packet.now table.now }
     ensures whole { (m : model.Message) → model.message_of packet.now ≡ Some m → PutWhole K.gained result sink.old (txt_text m) sink.new }
-    ensures stays { IfPut result (K.faults sink.new ≡ K.faults sink.old) }
-    ensures failed { result ≡ Put.Failed → Rose (K.faults sink.old) (K.faults sink.new) }
+    ensures count { K.faults sink.new ≡ count_put result (K.faults sink.old) }
 {
     let message = Message::new(packet, table);
     let mut writer = Writer::new();
@@ -121,8 +117,7 @@ pub fn show_mx<K: Sink>(
     requires packet { length packet.now ≤ 65535 }
     requires table { AreRowsOf packet.now table.now }
     ensures whole { (m : model.Message) → model.message_of packet.now ≡ Some m → PutWhole K.gained result sink.old (mx_text name.now m) sink.new }
-    ensures stays { IfPut result (K.faults sink.new ≡ K.faults sink.old) }
-    ensures failed { result ≡ Put.Failed → Rose (K.faults sink.old) (K.faults sink.new) }
+    ensures count { K.faults sink.new ≡ count_put result (K.faults sink.old) }
 {
     let message = Message::new(packet, table);
     let mut writer = Writer::new();

@@ -4,7 +4,7 @@ ghost use Rattle.dc_model.specs.Draws.{draws_of};
 ghost use Rattle.dc_model.specs.Event.{Event, tick};
 ghost use Rattle.dc_model.specs.Places.{all_empty};
 ghost use Rattle.dc_lookup.specs.Asking.{unasked, ask_step, ask_by, fresh_step, begins, followed_by, is_over, accepted_by, is_refused_by};
-ghost use Rattle.dc_serve.specs.Serve.{passes, Ran, IfServed, Justified};
+ghost use Rattle.dc_serve.specs.Serve.{passes, Ran, count_served, Justified};
 ghost use Rattle.dc_stub.specs.Stub.{Stub, stub_machine};
 
 use dc_draws::{Draws, shuffle};
@@ -207,9 +207,8 @@ pub fn ask<W: World>(
         W.history world.old (passes stub_machine (draws_of draws.old.seed) draws.old.given stub.old events result) world.new
         × Ran stub_machine (draws_of draws.old.seed) draws.old.given stub.old stub.new (min turns (2 ^ 60)) events result
         × (draws.new ≡ record { seed = draws.old.seed; given = draws.old.given + length events }) }
-    ensures later { W.faults world.old ≤ W.faults world.new }
-    ensures stays { IfServed result (W.faults world.new ≡ W.faults world.old) }
-    ensures justified { Justified result (W.used_up world.new) (W.broken world.new) (W.faults world.old) (W.faults world.new) }
+    ensures count { W.faults world.new ≡ count_served result (W.faults world.old) }
+    ensures justified { Justified result (W.used_up world.new) (W.broken world.new) }
 {
     serve(world, stub, draws, inbox, turns)
 }

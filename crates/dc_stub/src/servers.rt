@@ -2,7 +2,7 @@
 ghost use Rattle.std.specs.Prelude.{◌≡◌, ◌≢◌, ℕ, List, Some, None, Ok, Err, OnOk, OnErr, IfOk, take_while, codes, false};
 ghost use Rattle.dc_model.specs.Places.{places_of, all_empty};
 ghost use Rattle.dc_model.specs.Rules as model;
-ghost use Rattle.dc_event.specs.Causes.{Rose};
+ghost use Rattle.dc_event.specs.Causes.{counted};
 ghost use Rattle.dc_config.specs.Tree.{Tree};
 ghost use Rattle.dc_config.specs.Environment.{value_of};
 ghost use Rattle.dc_lookup.specs.Servers as tools;
@@ -142,7 +142,7 @@ pub fn servers_of<F: Files>(
     ensures unread { (a : List ℕ) → tools.own_server (value_of (codes "DNSCACHEIP") env.now) ≡ Some a → files.new ≡ files.old }
     ensures same { F.tree files.new ≡ F.tree files.old }
     ensures stays { result ≢ Err StubError.FilesFault → F.faults files.new ≡ F.faults files.old }
-    ensures failed { result ≡ Err StubError.FilesFault → Rose (F.faults files.old) (F.faults files.new) }
+    ensures failed { result ≡ Err StubError.FilesFault → F.faults files.new ≡ counted (F.faults files.old) }
 {
     if let Some(server) = own_server(env) {
         let mut places = [[0; 4]; 16];

@@ -1,7 +1,7 @@
 //! A tool's run.
 ghost use Rattle.std.specs.Prelude.{◌≡◌, ◌≢◌, ◌↔◌, ◌^◌, ℕ, List, min, Some, None, codes};
 ghost use Rattle.dc_model.specs.Draws.{draws_of};
-ghost use Rattle.dc_event.specs.Causes.{Rose};
+ghost use Rattle.dc_event.specs.Causes.{counted};
 ghost use Rattle.dc_config.specs.Environment.{value_of};
 ghost use Rattle.dc_lookup.specs.Words as model;
 ghost use Rattle.dc_lookup.specs.Servers.{own_server};
@@ -36,11 +36,11 @@ pub fn run<T: Tool, F: Files, K: Sink, W: World>(
         → (servers : List (List ℕ)) × AreServers (F.tree files.old) env.now servers
         × Looked W.history W.used_up W.broken K.gained world.old world.new sink.old sink.new
         T.tool (opened servers jobs) (draws_of seed) (min turns (2 ^ 60)) result }
-    ensures files_fault { result ≡ ToolStatus.FilesFault → Rose (F.faults files.old) (F.faults files.new) }
+    ensures files_fault { result ≡ ToolStatus.FilesFault → F.faults files.new ≡ counted (F.faults files.old) }
     ensures files_stay { result ≢ ToolStatus.FilesFault → F.faults files.new ≡ F.faults files.old }
-    ensures write_fault { result ≡ ToolStatus.WriteFault → Rose (K.faults sink.old) (K.faults sink.new) }
+    ensures write_fault { result ≡ ToolStatus.WriteFault → K.faults sink.new ≡ counted (K.faults sink.old) }
     ensures write_stays { result ≢ ToolStatus.WriteFault → K.faults sink.new ≡ K.faults sink.old }
-    ensures world_fault { result ≡ ToolStatus.WorldFault → Rose (W.faults world.old) (W.faults world.new) }
+    ensures world_fault { result ≡ ToolStatus.WorldFault → W.faults world.new ≡ counted (W.faults world.old) }
     ensures world_stays { result ≢ ToolStatus.WorldFault → W.faults world.new ≡ W.faults world.old }
 {
     let jobs = match T::jobs(alloc, words) {

@@ -1,8 +1,8 @@
 -- Texts that are written one after another.
 use Rattle.std.proofs.Common.{◌≡◌, ℕ, ◌+◌, ◌-◌, ◌≤◌, ◌^◌, min, Bool, true, false, List, [], ◌++◌, length, ap, sym, refl, ◌∙◌, subst, append_assoc, length-append, arith}
 use Rattle.std.proofs.lemmas.List.{append-nil}
-use Rattle.dc_event.specs.Answers.{IfPut}
-use Rattle.dc_event.specs.Causes.{Rose}
+use Rattle.dc_event.specs.Answers.{count_put}
+use Rattle.dc_event.specs.Causes.{counted}
 use Rattle.dc_event.specs.Told.{GainedFront}
 use Rattle.dc_event.specs.declared.answers.Put.{Put}
 use Rattle.dc_event.specs.declared.answers.Put.TheVariants.{Taken, Failed}
@@ -30,11 +30,11 @@ module _ {K : Type 0} (gained : K → List ℕ → K → Type 0) (faults : K →
           (q.0.1.0, all ∙ ap (λ (t : List ℕ). p.0 ++ t) q.0.1.1 ∙ sym (append_assoc p.0 q.0.0 q.0.1.0)),
           both k l m p.0 q.0.0 p.1 q.0.2,
         ),
-        subst (λ (n : ℕ). Rose n (faults m)) p.3 q.1,
+        q.1 ∙ ap counted p.3,
       )
   passes_both false true true k l m held xs mid ys left p q =
       let more : GainedFront gained k (held ++ (xs ++ ys)) l = subst (λ (t : List ℕ). GainedFront gained k t l) (append_assoc held xs ys) (front_more k l (held ++ xs) ys p.0) in
-      (subst (λ (x : K). GainedFront gained k (held ++ (xs ++ ys)) x) (sym q) more, subst (λ (x : K). Rose (faults k) (faults x)) (sym q) p.1)
+      (subst (λ (x : K). GainedFront gained k (held ++ (xs ++ ys)) x) (sym q) more, ap faults q ∙ p.1)
   passes_both false true false k l m held xs mid ys left p q = absurd q
   passes_both true false c k l m held xs mid ys left p q = absurd p
   passes_both true true false k l m held xs mid ys left p q = absurd q
@@ -65,15 +65,15 @@ module _ {K : Type 0} (gained : K → List ℕ → K → Type 0) (faults : K →
 
   pub flush_whole : (failed : Bool) (result : Put) (count : ℕ) (k l m : K) (held text : List ℕ) → min count (2 ^ 64 - 1) ≡ min (0 + length text) (2 ^ 64 - 1) → Passes gained faults false failed k [] text l held
       → Flushes gained faults failed result count l held m
-      → PutWhole gained result k text m × IfPut result (faults m ≡ faults k) × (result ≡ Failed → Rose (faults k) (faults m))
+      → PutWhole gained result k text m × (faults m ≡ count_put result (faults k))
   flush_whole false (Taken n) count k l m held text c p q =
-      ((subst (λ (t : List ℕ). gained k t m) p.2 (both k l m p.0 held p.1 q.0), omega (arith, c, q.1)), q.2 ∙ p.3, λ w. cc)
+      ((subst (λ (t : List ℕ). gained k t m) p.2 (both k l m p.0 held p.1 q.0), omega (arith, c, q.1)), q.2 ∙ p.3)
   flush_whole false Failed count k l m held text c p q =
       let begins : text ≡ (p.0 ++ q.0.0) ++ q.0.1.0 = sym p.2 ∙ ap (λ (t : List ℕ). p.0 ++ t) q.0.1.1 ∙ sym (append_assoc p.0 q.0.0 q.0.1.0) in
-      ((p.0 ++ q.0.0, (q.0.1.0, begins), both k l m p.0 q.0.0 p.1 q.0.2), tt, λ w. subst (λ (n : ℕ). Rose n (faults m)) p.3 q.1)
+      ((p.0 ++ q.0.0, (q.0.1.0, begins), both k l m p.0 q.0.0 p.1 q.0.2), q.1 ∙ ap counted p.3)
   flush_whole true (Taken n) count k l m held text c p q = absurd q
   flush_whole true Failed count k l m held text c p q =
-      (subst (λ (x : K). GainedFront gained k text x) (sym q) p.0, tt, λ w. subst (λ (x : K). Rose (faults k) (faults x)) (sym q) p.1)
+      (subst (λ (x : K). GainedFront gained k text x) (sym q) p.0, ap faults q ∙ p.1)
 
   -- The same text, said otherwise.
   pub wrote_as : {s t : Written} {k l : K} {xs ys : List ℕ} → xs ≡ ys → Wrote gained faults s k xs t l → Wrote gained faults s k ys t l
@@ -91,7 +91,7 @@ module _ {K : Type 0} (gained : K → List ℕ → K → Type 0) (faults : K →
 
   -- A whole text was written, and all was put.
   pub whole : {w : Written} {k l m : K} {text : List ℕ} (s : Written) (result : Put) → s ≡ unwritten → Wrote gained faults s k text w l → Flushes gained faults w.failed result w.count l w.held m
-      → PutWhole gained result k text m × IfPut result (faults m ≡ faults k) × (result ≡ Failed → Rose (faults k) (faults m))
+      → PutWhole gained result k text m × (faults m ≡ count_put result (faults k))
   whole {w} {k} {l} {m} {text} s result fresh p q =
       let h : Wrote gained faults unwritten k text w l = subst (λ (x : Written). Wrote gained faults x k text w l) fresh p in
       flush_whole w.failed result w.count k l m w.held text h.count h.passed q

@@ -1,6 +1,6 @@
 -- Text that a writer has put into a sink or still holds.
 use Rattle.std.specs.Prelude.{◌≡◌, ℕ, ◌+◌, ◌-◌, ◌^◌, min, Bool, true, false, List, [], ◌++◌, length}
-use Rattle.dc_event.specs.Causes.{Rose}
+use Rattle.dc_event.specs.Causes.{counted as one_more}
 use Rattle.dc_event.specs.Told.{GainedFront}
 use Rattle.dc_event.specs.declared.answers.Put.{Put}
 use Rattle.dc_event.specs.declared.answers.Put.TheVariants.{Taken, Failed}
@@ -23,7 +23,7 @@ counted n = min n (2 ^ 64 - 1)
 -- and its count of faults stayed; or a front of what was held and of the text, and the count rose; or it stayed as it was.
 abbrev pub Passes : {K : Type 0} → (K → List ℕ → K → Type 0) → (K → ℕ) → Bool → Bool → K → List ℕ → List ℕ → K → List ℕ → Type 0
 Passes gained faults false false old held text new left = (front : List ℕ) × gained old front new × (front ++ left ≡ held ++ text) × (faults new ≡ faults old)
-Passes gained faults false true old held text new left = GainedFront gained old (held ++ text) new × Rose (faults old) (faults new)
+Passes gained faults false true old held text new left = GainedFront gained old (held ++ text) new × (faults new ≡ one_more (faults old))
 Passes gained faults true false old held text new left = ⊥
 Passes gained faults true true old held text new left = new ≡ old
 
@@ -35,7 +35,7 @@ pub record Wrote {K : Type 0} (gained : K → List ℕ → K → Type 0) (faults
 -- All that is held was put, and this was answered.
 abbrev pub Flushes : {K : Type 0} → (K → List ℕ → K → Type 0) → (K → ℕ) → Bool → Put → ℕ → K → List ℕ → K → Type 0
 Flushes gained faults false (Taken n) count old held new = gained old held new × (n ≡ counted count) × (faults new ≡ faults old)
-Flushes gained faults false Failed count old held new = GainedFront gained old held new × Rose (faults old) (faults new)
+Flushes gained faults false Failed count old held new = GainedFront gained old held new × (faults new ≡ one_more (faults old))
 Flushes gained faults true (Taken n) count old held new = ⊥
 Flushes gained faults true Failed count old held new = new ≡ old
 

@@ -35,7 +35,7 @@ jobs-preserved-in-Taken g c =
           c.in-Taken.ensures.whole,
       so.1,
       so.2,
-      c.in-Taken.ensures.stays ∙ so.3,
+      c.in-Taken.ensures.count ∙ so.3,
       so.4,
     )
 
