@@ -176,12 +176,12 @@ fn write_data<K: Sink>(
     sink: &mut K,
     kind: u16,
     class: u16,
-    data: &Data<'_>,
+    item: &Data<'_>,
 )
-    requires { model.HasNames (body_of data.now) }
-    ensures { Wrote K.gained K.faults writer.old sink.old (data_text kind class (body_of data.now)) writer.new sink.new }
+    requires { model.HasNames (body_of item.now) }
+    ensures { Wrote K.gained K.faults writer.old sink.old (data_text kind class (body_of item.now)) writer.new sink.new }
 {
-    match data {
+    match item {
         Data::Bytes(bytes) => write_bytes(writer, sink, kind, class, bytes),
         Data::Host(name) => {
             writer.put(sink, host_word(kind));
@@ -204,16 +204,16 @@ fn write_line<K: Sink>(
     sink: &mut K,
     rr: Rr,
     owner: &Name,
-    data: &Data<'_>,
+    item: &Data<'_>,
 )
-    requires { model.HasNames (body_of data.now) }
-    ensures { Wrote K.gained K.faults writer.old sink.old (line_of rr owner.now (body_of data.now)) writer.new sink.new }
+    requires { model.HasNames (body_of item.now) }
+    ensures { Wrote K.gained K.faults writer.old sink.old (line_of rr owner.now (body_of item.now)) writer.new sink.new }
 {
     writer.put(sink, section_word(rr.section));
     write_dot(writer, sink, owner);
     write_space_number(writer, sink, rr.ttl.into());
     writer.put(sink, b" ");
-    write_data(writer, sink, rr.kind, rr.class, data);
+    write_data(writer, sink, rr.kind, rr.class, item);
     writer.put(sink, b"\n");
 }
 

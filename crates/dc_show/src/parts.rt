@@ -65,10 +65,10 @@ pub(crate) struct Texts;
 pub(crate) struct Exchanges;
 
 /// Writes data that is an address, with a space behind it.
-fn write_datum<K: Sink>(writer: &mut Writer, sink: &mut K, data: &Data<'_>)
-    ensures { Wrote K.gained K.faults writer.old sink.old (address_datum (body_of data.now)) writer.new sink.new }
+fn write_datum<K: Sink>(writer: &mut Writer, sink: &mut K, item: &Data<'_>)
+    ensures { Wrote K.gained K.faults writer.old sink.old (address_datum (body_of item.now)) writer.new sink.new }
 {
-    if let Data::Bytes(bytes) = data {
+    if let Data::Bytes(bytes) = item {
         write_if_address(writer, sink, bytes);
     }
 }
@@ -113,19 +113,19 @@ fn write_strings<K: Sink>(writer: &mut Writer, sink: &mut K, bytes: &[u8])
 }
 
 /// Writes the strings of data.
-fn write_text<K: Sink>(writer: &mut Writer, sink: &mut K, data: &Data<'_>)
-    ensures { Wrote K.gained K.faults writer.old sink.old (map printed (strings_in (body_of data.now))) writer.new sink.new }
+fn write_text<K: Sink>(writer: &mut Writer, sink: &mut K, item: &Data<'_>)
+    ensures { Wrote K.gained K.faults writer.old sink.old (map printed (strings_in (body_of item.now))) writer.new sink.new }
 {
-    if let Data::Bytes(bytes) = data {
+    if let Data::Bytes(bytes) = item {
         write_strings(writer, sink, bytes);
     }
 }
 
 /// Writes the line of MX data.
-fn write_exchange<K: Sink>(writer: &mut Writer, sink: &mut K, data: &Data<'_>)
-    ensures { Wrote K.gained K.faults writer.old sink.old (mx_in (body_of data.now)) writer.new sink.new }
+fn write_exchange<K: Sink>(writer: &mut Writer, sink: &mut K, item: &Data<'_>)
+    ensures { Wrote K.gained K.faults writer.old sink.old (mx_in (body_of item.now)) writer.new sink.new }
 {
-    if let Data::Mx(preference, name) = data {
+    if let Data::Mx(preference, name) = item {
         write_mx(writer, sink, *preference, name);
     }
 }
