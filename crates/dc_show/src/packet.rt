@@ -171,13 +171,7 @@ fn write_soa<K: Sink>(
 }
 
 /// Writes data by its type and class.
-fn write_data<K: Sink>(
-    writer: &mut Writer,
-    sink: &mut K,
-    kind: u16,
-    class: u16,
-    item: &Data<'_>,
-)
+fn write_data<K: Sink>(writer: &mut Writer, sink: &mut K, kind: u16, class: u16, item: &Data<'_>)
     requires { model.HasNames (body_of item.now) }
     ensures { Wrote K.gained K.faults writer.old sink.old (data_text kind class (body_of item.now)) writer.new sink.new }
 {
@@ -199,13 +193,7 @@ fn write_data<K: Sink>(
 }
 
 /// Writes the line of a record.
-fn write_line<K: Sink>(
-    writer: &mut Writer,
-    sink: &mut K,
-    rr: Rr,
-    owner: &Name,
-    item: &Data<'_>,
-)
+fn write_line<K: Sink>(writer: &mut Writer, sink: &mut K, rr: Rr, owner: &Name, item: &Data<'_>)
     requires { model.HasNames (body_of item.now) }
     ensures { Wrote K.gained K.faults writer.old sink.old (line_of rr owner.now (body_of item.now)) writer.new sink.new }
 {

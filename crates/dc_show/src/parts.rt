@@ -161,11 +161,7 @@ impl Part for Exchanges {
 }
 
 /// Writes what each record of a message adds, in order.
-pub(crate) fn write_each<P: Part, K: Sink>(
-    writer: &mut Writer,
-    sink: &mut K,
-    message: &Message<'_>,
-)
+pub(crate) fn write_each<P: Part, K: Sink>(writer: &mut Writer, sink: &mut K, message: &Message<'_>)
     requires { AllByRecursion (λ r. model.HasNames r.body) message.now.records }
     ensures { Wrote K.gained K.faults writer.old sink.old (flat_map P.text message.now.records) writer.new sink.new }
 {

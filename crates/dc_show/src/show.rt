@@ -89,12 +89,7 @@ pub fn show_txt<K: Sink>(
 }
 
 /// Writes the lines of the mail exchanges of a message, or that of the name itself where there is none.
-fn write_exchanges<K: Sink>(
-    writer: &mut Writer,
-    sink: &mut K,
-    name: &Name,
-    message: &Message<'_>,
-)
+fn write_exchanges<K: Sink>(writer: &mut Writer, sink: &mut K, name: &Name, message: &Message<'_>)
     requires { AllByRecursion (λ r. model.HasNames r.body) message.now.records }
     ensures { Wrote K.gained K.faults writer.old sink.old (mx_text name.now message.now) writer.new sink.new }
 {
@@ -107,13 +102,7 @@ fn write_exchanges<K: Sink>(
 
 /// Writes the mail exchanges that a packet answers, a line each: its preference and its name. Where there is none, the name that was asked
 /// for is one, with the preference 0. Answers how many bytes that were. Where the sink fails a front of the text was put.
-pub fn show_mx<K: Sink>(
-    name: &Name,
-    _qtype: u16,
-    packet: &[u8],
-    table: &Table,
-    sink: &mut K,
-) -> Put
+pub fn show_mx<K: Sink>(name: &Name, _qtype: u16, packet: &[u8], table: &Table, sink: &mut K) -> Put
     requires packet { length packet.now ≤ 65535 }
     requires table { AreRowsOf packet.now table.now }
     ensures whole { (m : model.Message) → model.message_of packet.now ≡ Some m → PutWhole K.gained result sink.old (mx_text name.now m) sink.new }

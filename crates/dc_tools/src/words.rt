@@ -28,10 +28,7 @@ fn are_usable<T: Word>(words: &[String]) -> bool
 }
 
 /// What the words come to. They are tried before memory is taken.
-pub(crate) fn jobs_of_each<T: Word>(
-    alloc: Global,
-    words: &[String],
-) -> Result<Vec<Job>, Refusal>
+pub(crate) fn jobs_of_each<T: Word>(alloc: Global, words: &[String]) -> Result<Vec<Job>, Refusal>
     ensures jobs { IfOk result (λ jobs. some_each T.said (bytes_of words.now) ≡ Some (map job_of jobs.items)) }
     ensures usage { IfErr result (λ why. why ≡ Refusal.Usage → some_each T.said (bytes_of words.now) ≡ None) }
     ensures memory { IfErr result (λ why. why ≡ Refusal.NoMemory → some_each T.said (bytes_of words.now) ≢ None) }
