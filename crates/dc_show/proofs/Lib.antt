@@ -1,0 +1,3 @@
+pub mod DotLemmas
+pub mod TextLemmas
+pub mod PartLemmas

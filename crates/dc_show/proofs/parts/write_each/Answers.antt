@@ -1,0 +1,19 @@
+use Rattle.std.proofs.Common.{◌≡◌, ◌≤◌, length, arith, sym}
+use Rattle.dc_writer.proofs.Writing.{wrote_both, wrote_none, wrote_as}
+use Rattle.dc_show.proofs.PartLemmas.{is_there, each_more, each_whole}
+use Rattle.dc_show.proofs.parts.write_each.Goals as goal
+
+pub loop-at-init : goal.loop-at-init
+loop-at-init g c = wrote_none _ _ g.met.K.Sink.gained_both g.met.K.Sink.gained_none _ _
+
+pub loop-at-preserved : goal.loop-at-preserved
+loop-at-preserved g c =
+    let b = g.met.K.Sink.gained_both in
+    let records = c.args.message.now.records in
+    let there = is_there records c.loop-at.at (omega (arith, c.count-at-end.ensures.value)) in
+    wrote_as _ _ b (each_more g.P.Part.text records c.loop-at.at there.0 there.1) (wrote_both _ _ b c.loop-at.invariant (c.write.ensures there.0 there.1))
+
+pub returns : goal.returns
+returns g c =
+    let records = c.args.message.now.records in
+    wrote_as _ _ g.met.K.Sink.gained_both (each_whole g.P.Part.text records c.loop-at.at (omega (arith, c.count-at-end.ensures.value))) c.loop-at.invariant

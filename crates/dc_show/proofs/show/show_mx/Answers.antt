@@ -1,0 +1,17 @@
+use Rattle.std.proofs.Common.{◌≡◌, sym, ap, ◌∙◌}
+use Rattle.dc_model.specs.Message.{Message}
+use Rattle.dc_lookup.specs.Text.{mx_text}
+use Rattle.dc_model.proofs.MessageLemmas.{some_of}
+use Rattle.dc_writer.proofs.Writing.{wrote_both, wrote_as, whole}
+use Rattle.dc_show.proofs.PartLemmas.{names_are}
+use Rattle.dc_show.proofs.show.show_mx.Goals as goal
+
+pub write_exchanges-requires : goal.write_exchanges-requires
+write_exchanges-requires g c = names_are c.args.packet.now c.new-message.result c.new-message.ensures
+
+pub returns-clause-whole : goal.returns-clause-whole
+returns-clause-whole g c m e =
+    let b = g.met.K.Sink.gained_both in
+    let same = some_of c.new-message.result m (sym c.new-message.ensures ∙ e) in
+    let text = wrote_as _ _ b (ap (λ (x : Message). mx_text c.args.name.now x) same) (c.write_exchanges.ensures) in
+    (whole _ _ b c.new-writer.result c.finish.result c.new-writer.ensures text c.finish.ensures.flushed).0
