@@ -82,6 +82,6 @@ returns-clause-write g c =
     ap writes_well (ap (answer_from answer) (sym c.wrote_all.ensures.value) ∙ sym c.answer_of-answer.ensures) in
     let fated = subst (λ b. Fated g.K.Sink.gained g.K.Sink.refused g.K.Sink.faults b new.write_failed old.sink new.sink) unwritten run.1.done.fated in
     let fares = fares_of g.K.Sink.gained g.K.Sink.refused g.K.Sink.faults (writes_well c.answer_of-answer.result) new.write_failed old.sink new.sink
-        (write_fared answer new.write_failed ∙ ap not result) fated in
+    (write_fared answer new.write_failed ∙ ap not result) fated in
     subst (λ s. Fares g.K.Sink.gained g.K.Sink.refused g.K.Sink.faults (writes_well c.answer_of-answer.result) c.args.sink s) (sym parts.ensures.sink)
     (subst (λ s. Fares g.K.Sink.gained g.K.Sink.refused g.K.Sink.faults (writes_well c.answer_of-answer.result) s new.sink) (ap (λ w. w.sink) opened) fares)
