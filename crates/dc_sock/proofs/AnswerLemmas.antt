@@ -47,34 +47,34 @@ use Rattle.dc_sock.specs.World.{Shown, IsFresh, Gave, Explains, Explained}
 use Rattle.dc_sock.proofs.PlaceLemmas.{Steps, all_as, rest_steps, quiet_steps, looks_steps, hearing_miss, makes_steps}
 use Rattle.dc_sock.proofs.StreamLemmas.{get_set, get_other, Lives, lives_as, Reaches, move_lives, reach_then, move_numbered, numbered_as}
 
-abbrev LivesIn : (index number : ℕ) (t g : List ℕ) → Edge → Type 0
+abbrev LivesIn : (index number : ℕ) (t : List Call) (g : List ℕ) → Edge → Type 0
 LivesIn index number t g e = Lives index number t g e.seats e.next_conn
 
-abbrev ReachesIn : (index number : ℕ) (t g : List ℕ) → List Call → Edge → Type 0
+abbrev ReachesIn : (index number : ℕ) (t : List Call) (g : List ℕ) → List Call → Edge → Type 0
 ReachesIn index number t g calls e = Reaches index number t g calls e.seats e.next_conn
 
 abbrev NumberedIn : Edge → Type 0
 NumberedIn e = IsNumbered e.seats e.next_conn
 
 -- Other seats and numbers that are the same.
-same_places : (i n : ℕ) (t g : List ℕ) (a b : Edge) → b.seats ≡ a.seats → b.next_conn ≡ a.next_conn → LivesIn i n t g a → LivesIn i n t g b
+same_places : (i n : ℕ) (t : List Call) (g : List ℕ) (a b : Edge) → b.seats ≡ a.seats → b.next_conn ≡ a.next_conn → LivesIn i n t g a → LivesIn i n t g b
 same_places i n t g a b p q l = lives_as i n t t g g a.seats b.seats a.next_conn b.next_conn refl refl p q l
 
-reaches_at : (i n : ℕ) (t g : List ℕ) (calls : List Call) (a b : Edge) → b.seats ≡ a.seats → b.next_conn ≡ a.next_conn → ReachesIn i n t g calls a → ReachesIn i n t g calls b
+reaches_at : (i n : ℕ) (t : List Call) (g : List ℕ) (calls : List Call) (a b : Edge) → b.seats ≡ a.seats → b.next_conn ≡ a.next_conn → ReachesIn i n t g calls a → ReachesIn i n t g calls b
 reaches_at i n t g calls a b p q r =
     subst (λ (s : List Seat). Reaches i n t g calls s b.next_conn) (sym p) (subst (λ (k : ℕ). Reaches i n t g calls a.seats k) (sym q) r)
 
 -- Where nothing is given.
-reach_on : (i n : ℕ) (t g : List ℕ) (xs ys : List Call) (mid b : Edge) → ReachesIn i n t g xs mid → ((s : List ℕ) → LivesIn i n s g mid → ReachesIn i n s g ys b) → ReachesIn i n t g (xs ++ ys) b
+reach_on : (i n : ℕ) (t : List Call) (g : List ℕ) (xs ys : List Call) (mid b : Edge) → ReachesIn i n t g xs mid → ((s : List Call) → LivesIn i n s g mid → ReachesIn i n s g ys b) → ReachesIn i n t g (xs ++ ys) b
 reach_on i n t g xs ys mid b r k =
     subst (λ (h : List ℕ). ReachesIn i n t h (xs ++ ys) b) (append-nil g)
     (reach_then i n t g [] xs ys mid.seats b.seats mid.next_conn b.next_conn r (λ s l. subst (λ (h : List ℕ). ReachesIn i n s h ys b) (sym (append-nil g)) (k s l)))
 
-steps_reach : (i n : ℕ) (t g : List ℕ) (a b : Edge) (calls : List Call) → Steps a calls b → LivesIn i n t g a → ReachesIn i n t g calls b
+steps_reach : (i n : ℕ) (t : List Call) (g : List ℕ) (a b : Edge) (calls : List Call) → Steps a calls b → LivesIn i n t g a → ReachesIn i n t g calls b
 steps_reach i n t g a b calls m l =
     subst (λ (h : List ℕ). ReachesIn i n t h calls b) (append-nil g) (move_lives i n t g a.seats a.next_conn calls (λ k. []) b.seats b.next_conn m l)
 
-quiet_reaches : (wake : Option ℕ) (i n : ℕ) (t g : List ℕ) (a : Edge) (xs : List Call) (b : Edge) → Quiet wake a xs b → LivesIn i n t g a → ReachesIn i n t g xs b
+quiet_reaches : (wake : Option ℕ) (i n : ℕ) (t : List Call) (g : List ℕ) (a : Edge) (xs : List Call) (b : Edge) → Quiet wake a xs b → LivesIn i n t g a → ReachesIn i n t g xs b
 quiet_reaches wake i n t g a [] b q l =
     inl (tt, lives_as i n (t ++ []) t g g a.seats b.seats a.next_conn b.next_conn (append-nil t) refl (ap (λ (x : Edge). x.seats) q) (ap (λ (x : Edge). x.next_conn) q) l)
 quiet_reaches wake i n t g a (x ∷ xs) b q l =
@@ -92,7 +92,7 @@ last_steps wake a calls e b h = elim h [
   | inr due ↦ rest_steps a b calls (all_as calls [] due.none (λ s p. tt)) (ap (λ (x : Edge). x.seats) due.same) (ap (λ (x : Edge). x.next_conn) due.same)
 ]
 
-said_reaches : (wake : Option ℕ) (i n : ℕ) (t g : List ℕ) (said : Answer) (a : Edge) (calls : List Call) (b : Edge) → Gave wake said a calls b → LivesIn i n t g a → ReachesIn i n t g calls b
+said_reaches : (wake : Option ℕ) (i n : ℕ) (t : List Call) (g : List ℕ) (said : Answer) (a : Edge) (calls : List Call) (b : Edge) → Gave wake said a calls b → LivesIn i n t g a → ReachesIn i n t g calls b
 said_reaches wake i n t g (history.gave e) a calls b h l =
     let all : ReachesIn i n t g (h.before ++ h.last) h.after =
     reach_on i n t g h.before h.last h.between h.after (quiet_reaches wake i n t g a h.before h.between h.quiet l)
@@ -255,7 +255,9 @@ opens_lives a b calls id u o room =
                 let less : its.number < a.next_conn = o.below under j other its was is in
                 absurd (omega arith)
           ];
+          stays = tt;
           balance = ([], (refl, λ e. refl));
+          why = λ bad. let no : true ≡ false = sym bad in (cc);
           below = omega arith;
           limit = omega arith;
           places = ap (λ (s : List Seat). length s) u.seats ∙ (length-set a.seats u.index (new_seat a.next_conn) ∙ o.places);
@@ -296,8 +298,11 @@ answered i n xs calls b r = elim r [
               l.is,
               (
                 l.named,
-                λ fine.
-                    ap (λ (x : List ℕ). takes (seat_socket i) calls ++ x) (sym (append-nil l.seat.backlog) ∙ ap (λ (x : List ℕ). l.seat.backlog ++ x) (sym (l.balance.1.1 fine))) ∙ l.balance.1.0,
+                (
+                  λ fine.
+                      ap (λ (x : List ℕ). takes (seat_socket i) calls ++ x) (sym (append-nil l.seat.backlog) ∙ ap (λ (x : List ℕ). l.seat.backlog ++ x) (sym (l.balance.1.1 fine))) ∙ l.balance.1.0,
+                  λ bad. l.why bad,
+                ),
               ),
             ),
           ),
@@ -312,7 +317,7 @@ module _ {S : Type 0} (called : S → List Call → S → Type 0) where
   parts_of a b [] p = []
   parts_of a b (x ∷ xs) p = p.1.0.0 ∷ parts_of p.0 b xs p.1.1
 
-  exchange_reaches : (i n : ℕ) (t g : List ℕ) (x : Exchange) (a m : Shown S) (calls : List Call) → Explains x a calls m → LivesIn i n t g a.edge → ReachesIn i n t (g ++ replied_in n x) calls m.edge
+  exchange_reaches : (i n : ℕ) (t : List Call) (g : List ℕ) (x : Exchange) (a m : Shown S) (calls : List Call) → Explains x a calls m → LivesIn i n t g a.edge → ReachesIn i n t (g ++ replied_in n x) calls m.edge
   exchange_reaches i n t g (listened addr send_from ok) a m calls e l =
       move_lives i n t g a.edge.seats a.edge.next_conn calls (λ k. []) m.edge.seats m.edge.next_conn
       (rest_steps a.edge m.edge calls (all_as calls _ e.0.0.1.0 (hearing_miss e.0.0.0 addr a.port)) (ap (λ (w : Edge). w.seats) e.0.1) (ap (λ (w : Edge). w.next_conn) e.0.1)) l
@@ -331,7 +336,7 @@ module _ {S : Type 0} (called : S → List Call → S → Type 0) where
       move_numbered a.edge.seats a.edge.next_conn calls (λ k. reply_to k x) m.edge.seats m.edge.next_conn (makes_steps x a.edge calls m.edge e.0) o
 
   -- One connection, followed to the end of the run.
-  follows : (i n : ℕ) (t g : List ℕ) (a b : Shown S) (xs : List Exchange) (p : Explained called a xs b) → LivesIn i n t g a.edge → ReachesIn i n t (g ++ replies_to n xs) (joined (parts_of a b xs p)) b.edge
+  follows : (i n : ℕ) (t : List Call) (g : List ℕ) (a b : Shown S) (xs : List Exchange) (p : Explained called a xs b) → LivesIn i n t g a.edge → ReachesIn i n t (g ++ replies_to n xs) (joined (parts_of a b xs p)) b.edge
   follows i n t g a b [] p l =
       inl (tt, lives_as i n (t ++ []) t g (g ++ []) a.edge.seats b.edge.seats a.edge.next_conn b.edge.next_conn (append-nil t) (append-nil g) (ap (λ (w : Shown S). w.edge.seats) p) (ap (λ (w : Shown S). w.edge.next_conn) p) l)
   follows i n t g a b (x ∷ xs) p l =

@@ -1,7 +1,9 @@
 -- What the calls of each exchange do at the places of clients' connections.
-use Rattle.std.specs.Prelude.{◌≡◌, ◌==◌, nat_le, ℕ, Bool, true, false, if◌then◌else◌, List, [], ◌∷◌, ◌++◌, length, take, drop, slice_get, slice_set, is_none, refl}
+use Rattle.std.specs.Prelude.{◌≡◌, ◌≤◌, ◌<◌, ◌==◌, nat_le, ℕ, Bool, true, false, if◌then◌else◌, List, [], ◌∷◌, ◌++◌, length, take, drop, slice_get, slice_set, is_none, refl}
 use Rattle.std.proofs.Common.{inl, inr, sym, subst, ◌∙◌, ap, append_assoc, arith, suc}
 use Rattle.std.proofs.lemmas.List.{append-nil, take-append-drop}
+use Rattle.std.proofs.Common.{length-append, length-drop}
+use Rattle.std.proofs.lemmas.Bool.{leb-false}
 use Rattle.std.proofs.lemmas.Option.{slice_get_within, get_or_from_slice_get}
 use Rattle.std.specs.declared.option.Option.{Option}
 use Rattle.std.specs.declared.option.Option.TheVariants.{None, Some}
@@ -89,6 +91,7 @@ read_steps a s part.End bytes b p =
       named = refl;
       stays = (refl, tt);
       balance = λ t g x. (x.0, (ap (λ (l : List ℕ). l ++ (p.1.backlog ++ x.0)) (append-nil t) ∙ (x.1.0 ∙ sym (append-nil g)), x.1.1));
+      why = λ t g x bad. inl bad;
     })
     (ap (λ (x : Edge). x.seats) p.3.1.1.1.1)
     (ap (λ (x : Edge). x.next_conn) p.3.1.1.1.1)
@@ -105,6 +108,7 @@ write_at (Some conn) a b index seat taken is there e =
       is = is;
       named = refl;
       stays = (refl, tt);
+      why = λ t g x bad. inl bad;
       balance = λ t g x. (
         x.0,
         (
@@ -258,6 +262,7 @@ reads_steps (Some rest) index seat conn became old new next flushed heard closed
       is = ap (λ (x : Seat). x.conn) r.1.1.1;
       named = named.0;
       stays = more.1.stays;
+      why = λ t g x bad. inl (sym named.1 ∙ bad);
       balance = λ t g x. (
         x.0,
         (
@@ -392,13 +397,23 @@ abbrev KeepsSome : (s : ℕ) (seat : Seat) (conn : Conn) (bytes : List ℕ) (cal
 KeepsSome s seat conn bytes calls became = (now : Conn) × Keeps s seat conn bytes calls became now
 
 -- It was written at once, as far as it was taken; what wasn't waits or is lost.
-written_keeps : (fits : Bool) (s : ℕ) (seat : Seat) (conn : Conn) (bytes : List ℕ) (taken : ℕ) → conn.failed ≡ false → seat.backlog ≡ [] → KeepsSome s seat conn bytes (call.write s bytes (Some taken) ∷ []) (after_put seat conn (if fits then Some (seat.backlog ++ drop taken bytes) else None))
-written_keeps true s seat conn bytes taken well empty = (
+over_room : (waits given : List ℕ) → nat_le (length waits) 65537 ≡ false → length waits ≤ length given → 65537 < length given
+over_room waits given e p = let over : 65537 < length waits = leb-false (length waits) 65537 e in omega arith
+
+rest_within : (taken : ℕ) (t w lost bytes g : List ℕ) → t ++ (w ++ lost) ≡ g → length (w ++ drop taken bytes) ≤ length (g ++ bytes)
+rest_within taken t w lost bytes g e = omega (arith, length-append t (w ++ lost), length-append w lost, ap (λ (l : List ℕ). length l) e, length-append w (drop taken bytes), length-append g bytes, length-drop taken bytes)
+
+all_within : (t w lost bytes g : List ℕ) → t ++ (w ++ lost) ≡ g → length (w ++ bytes) ≤ length (g ++ bytes)
+all_within t w lost bytes g e = omega (arith, length-append t (w ++ lost), length-append w lost, ap (λ (l : List ℕ). length l) e, length-append w bytes, length-append g bytes)
+
+written_keeps : (fits : Bool) (s : ℕ) (seat : Seat) (conn : Conn) (bytes : List ℕ) (taken : ℕ) → nat_le (length (seat.backlog ++ drop taken bytes)) 65537 ≡ fits → conn.failed ≡ false → seat.backlog ≡ [] → KeepsSome s seat conn bytes (call.write s bytes (Some taken) ∷ []) (after_put seat conn (if fits then Some (seat.backlog ++ drop taken bytes) else None))
+written_keeps true s seat conn bytes taken fit well empty = (
   replied_conn conn true,
   record {
     is = refl;
     named = refl;
     stays = (refl, tt);
+    why = λ t g x bad. inl bad;
     balance = λ t g x. (
       [],
       (
@@ -411,12 +426,13 @@ written_keeps true s seat conn bytes taken well empty = (
     );
   },
 )
-written_keeps false s seat conn bytes taken well empty = (
+written_keeps false s seat conn bytes taken fit well empty = (
   replied_conn conn false,
   record {
     is = refl;
     named = refl;
     stays = (refl, tt);
+    why = λ t g x bad. inr (inr (over_room (seat.backlog ++ drop taken bytes) (g ++ bytes) fit (rest_within taken t seat.backlog x.0 bytes g x.1.0)));
     balance = λ t g x. (
       drop taken bytes,
       (
@@ -430,22 +446,24 @@ written_keeps false s seat conn bytes taken well empty = (
 )
 
 -- It waits behind the others, or is lost.
-waits_keeps : (fits : Bool) (s : ℕ) (seat : Seat) (conn : Conn) (bytes : List ℕ) → conn.failed ≡ false → KeepsSome s seat conn bytes [] (after_put seat conn (if fits then Some (seat.backlog ++ bytes) else None))
-waits_keeps true s seat conn bytes well = (
+waits_keeps : (fits : Bool) (s : ℕ) (seat : Seat) (conn : Conn) (bytes : List ℕ) → nat_le (length (seat.backlog ++ bytes)) 65537 ≡ fits → conn.failed ≡ false → KeepsSome s seat conn bytes [] (after_put seat conn (if fits then Some (seat.backlog ++ bytes) else None))
+waits_keeps true s seat conn bytes fit well = (
   replied_conn conn true,
   record {
     is = refl;
     named = refl;
     stays = tt;
+    why = λ t g x bad. inl bad;
     balance = λ t g x. ([], (gives_more t [] (seat.backlog ++ bytes) [] seat.backlog bytes g x.0 x.1.0 (x.1.1 well) (append-nil (seat.backlog ++ bytes)), λ e. refl));
   },
 )
-waits_keeps false s seat conn bytes well = (
+waits_keeps false s seat conn bytes fit well = (
   replied_conn conn false,
   record {
     is = refl;
     named = refl;
     stays = tt;
+    why = λ t g x bad. inr (inr (over_room (seat.backlog ++ bytes) (g ++ bytes) fit (all_within t seat.backlog x.0 bytes g x.1.0)));
     balance = λ t g x. (bytes, (gives_more t [] seat.backlog bytes seat.backlog bytes g x.0 x.1.0 (x.1.1 well) refl, λ e. let no : true ≡ false = e in (cc)));
   },
 )
@@ -457,6 +475,7 @@ put_keeps true s seat conn bytes None e well = (
     is = refl;
     named = refl;
     stays = (refl, tt);
+    why = λ t g x bad. inr (inl ([], bytes, [], refl));
     balance = λ t g x. (
       bytes,
       (
@@ -466,8 +485,8 @@ put_keeps true s seat conn bytes None e well = (
     );
   },
 )
-put_keeps true s seat conn bytes (Some taken) e well = written_keeps (nat_le (length (seat.backlog ++ drop taken bytes)) 65537) s seat conn bytes taken well (empty_is seat.backlog e)
-put_keeps false s seat conn bytes answer e well = waits_keeps (nat_le (length (seat.backlog ++ bytes)) 65537) s seat conn bytes well
+put_keeps true s seat conn bytes (Some taken) e well = written_keeps (nat_le (length (seat.backlog ++ drop taken bytes)) 65537) s seat conn bytes taken refl well (empty_is seat.backlog e)
+put_keeps false s seat conn bytes answer e well = waits_keeps (nat_le (length (seat.backlog ++ bytes)) 65537) s seat conn bytes refl well
 
 put_misses : (empty : Bool) (s : ℕ) (bytes : List ℕ) (answer : Option ℕ) → MissesOthers s (if empty then call.write s bytes answer ∷ [] else [])
 put_misses true s bytes answer = write_misses s bytes answer
@@ -491,6 +510,7 @@ puts_steps true number index seat conn bytes calls became old new next bad there
       is = is;
       named = refl;
       stays = tt;
+      why = λ t g x f. inl f;
       balance = λ t g x. (
         x.0 ++ bytes,
         (

@@ -2,17 +2,19 @@
 use Rattle.std.specs.Prelude.{◌≡◌, ◌⊎◌, ◌≤◌, ◌<◌, ◌-◌, ◌^◌, ◌==◌, ℕ, Bool, true, false, if◌then◌else◌, List, [], ◌∷◌, ◌++◌, length, slice_get, slice_set, refl}
 use Rattle.std.proofs.Common.{inl, inr, sym, subst, ◌∙◌, ap, append_assoc, arith, zero, suc}
 use Rattle.std.proofs.lemmas.List.{append-nil, length-set}
+use Rattle.std.proofs.Common.{length-append}
 use Rattle.std.proofs.lemmas.Option.{slice_get_within}
 use Rattle.std.proofs.lemmas.Bool.Decides.{eqb_tells}
 use Rattle.std.specs.List.{AllByRecursion}
 use Rattle.std.specs.declared.option.Option.TheVariants.{None, Some}
 use Rattle.dc_event.specs.Causes.{counted}
 use Rattle.dc_system.specs.Call.{Call}
+use Rattle.dc_system.specs.Call as call
 use Rattle.dc_sock.specs.declared.seat.Conn.{Conn}
 use Rattle.dc_sock.specs.declared.seat.Seat.{Seat}
 use Rattle.dc_sock.specs.ClientCalls.{seat_socket}
 use Rattle.dc_sock.specs.SeatCalls.{new_seat, free_seat}
-use Rattle.dc_sock.specs.Streams.{took, closes, takes, StaysOpen, IsNumbered}
+use Rattle.dc_sock.specs.Streams.{took, closes, takes, StaysOpen, MayFail, IsNumbered}
 use Rattle.dc_sock.proofs.SeatLemmas.{each_append}
 
 -- Numbers that are told apart.
@@ -118,22 +120,37 @@ balance_as s t g h w v f k p q r x b =
     subst (λ (l : List ℕ). Balance l h v k) (sym p)
     (subst (λ (l : List ℕ). Balance t l v k) (sym q) (subst (λ (l : List ℕ). Balance t g l k) (sym r) (subst (λ (z : Bool). Balance t g w z) (sym x) b)))
 
--- It stands at its place, alone with its number.
-pub record Lives (index number : ℕ) (t g : List ℕ) (seats : List Seat) (next : ℕ) : Type 0 where
+-- It may have failed behind more calls and bytes, too.
+fails_later : (socket : ℕ) (xs ys : List Call) (g more : List ℕ) → MayFail socket xs g → MayFail socket (xs ++ ys) (g ++ more)
+fails_later socket xs ys g more f = elim f [
+  | inl w ↦ inl (w.0, w.1, w.2 ++ ys, ap (λ (cs : List Call). cs ++ ys) w.3 ∙ append_assoc w.0 (call.write socket w.1 None ∷ w.2) ys)
+  | inr over ↦ inr (omega (arith, length-append g more))
+]
+
+fails_behind : (socket : ℕ) (xs ys : List Call) (g : List ℕ) → MayFail socket ys g → MayFail socket (xs ++ ys) g
+fails_behind socket xs ys g f = elim f [
+  | inl w ↦ inl (xs ++ w.0, w.1, w.2, ap (λ (cs : List Call). xs ++ cs) w.3 ∙ sym (append_assoc xs w.0 (call.write socket w.1 None ∷ w.2)))
+  | inr over ↦ inr over
+]
+
+-- It stands at its place, alone with its number, behind these calls since it came.
+pub record Lives (index number : ℕ) (t : List Call) (g : List ℕ) (seats : List Seat) (next : ℕ) : Type 0 where
   pub seat : Seat
   pub conn : Conn
   pub there : slice_get seats index ≡ Some seat
   pub is : seat.conn ≡ Some conn
   pub named : conn.number ≡ number
   pub alone : (j : ℕ) (other : Seat) (its : Conn) → slice_get seats j ≡ Some other → other.conn ≡ Some its → its.number ≡ number → j ≡ index
-  pub balance : Balance t g seat.backlog conn.failed
+  pub stays : StaysOpen (seat_socket index) t
+  pub balance : Balance (takes (seat_socket index) t) g seat.backlog conn.failed
+  pub why : conn.failed ≡ true → MayFail (seat_socket index) t g
   pub below : number < next
   pub limit : next ≤ 2 ^ 64 - 1
   pub places : length seats ≡ 24
 
-pub lives_as : (i n : ℕ) (s t g h : List ℕ) (old new : List Seat) (next after : ℕ) → s ≡ t → h ≡ g → new ≡ old → after ≡ next → Lives i n t g old next → Lives i n s h new after
+pub lives_as : (i n : ℕ) (s t : List Call) (g h : List ℕ) (old new : List Seat) (next after : ℕ) → s ≡ t → h ≡ g → new ≡ old → after ≡ next → Lives i n t g old next → Lives i n s h new after
 lives_as i n s t g h old new next after p q r x l =
-    subst (λ (k : List ℕ). Lives i n k h new after) (sym p)
+    subst (λ (k : List Call). Lives i n k h new after) (sym p)
     (subst (λ (k : List ℕ). Lives i n t k new after) (sym q)
     (subst (λ (k : List Seat). Lives i n t g k after) (sym r) (subst (λ (k : ℕ). Lives i n t g old k) (sym x) l)))
 
@@ -143,6 +160,7 @@ pub record Keeps (socket : ℕ) (seat : Seat) (conn : Conn) (more : List ℕ) (c
   pub named : now.number ≡ conn.number
   pub stays : StaysOpen socket calls
   pub balance : (t g : List ℕ) → Balance t g seat.backlog conn.failed → Balance (t ++ takes socket calls) (g ++ more) became.backlog now.failed
+  pub why : (t g : List ℕ) → Balance t g seat.backlog conn.failed → now.failed ≡ true → (conn.failed ≡ true) ⊎ MayFail socket calls (g ++ more)
 
 pub record Shuts (socket : ℕ) (seat : Seat) (calls : List Call) : Type 0 where
   pub cut : (ys : List Call) → takes socket (calls ++ ys) ≡ takes socket calls
@@ -163,19 +181,19 @@ Ends socket t g calls =
     ((ys : List Call) → takes socket (calls ++ ys) ≡ takes socket calls)
     × ((StaysOpen socket calls → ⊥) × ((lost : List ℕ) × ((t ++ takes socket calls) ++ lost ≡ g)))
 
-abbrev pub Reaches : (index number : ℕ) (t g : List ℕ) → List Call → (seats : List Seat) (next : ℕ) → Type 0
+abbrev pub Reaches : (index number : ℕ) (t : List Call) (g : List ℕ) → List Call → (seats : List Seat) (next : ℕ) → Type 0
 Reaches index number t g calls seats next =
-    (StaysOpen (seat_socket index) calls × Lives index number (t ++ takes (seat_socket index) calls) g seats next) ⊎ Ends (seat_socket index) t g calls
+    (StaysOpen (seat_socket index) calls × Lives index number (t ++ calls) g seats next) ⊎ Ends (seat_socket index) (takes (seat_socket index) t) g calls
 
 -- Nothing was taken and nothing was given.
-took_none : (s : ℕ) (t : List ℕ) (calls : List Call) → AreMissed s calls → t ++ takes s calls ≡ t
-took_none s t calls m = ap (λ (l : List ℕ). t ++ l) (missed_takes s calls m) ∙ append-nil t
+took_none : (s : ℕ) (t calls : List Call) → StaysOpen s t → AreMissed s calls → takes s (t ++ calls) ≡ takes s t
+took_none s t calls o m = takes_both s t calls o ∙ (ap (λ (l : List ℕ). takes s t ++ l) (missed_takes s calls m) ∙ append-nil (takes s t))
 
 gave_none : (g more : List ℕ) → more ≡ [] → g ++ more ≡ g
 gave_none g more e = ap (λ (l : List ℕ). g ++ l) e ∙ append-nil g
 
 -- A step at another place.
-other_lives : (i n : ℕ) (t g : List ℕ) (old : List Seat) (next : ℕ) (calls : List Call) (more : List ℕ) (new : List Seat) (after index : ℕ) (became : Seat) → Lives i n t g old next → (index ≡ i → ⊥) → new ≡ slice_set old index became → AreMissed (seat_socket i) calls → more ≡ [] → ((its : Conn) → became.conn ≡ Some its → its.number ≡ n → ⊥) → n < after → after ≤ 2 ^ 64 - 1 → Reaches i n t (g ++ more) calls new after
+other_lives : (i n : ℕ) (t : List Call) (g : List ℕ) (old : List Seat) (next : ℕ) (calls : List Call) (more : List ℕ) (new : List Seat) (after index : ℕ) (became : Seat) → Lives i n t g old next → (index ≡ i → ⊥) → new ≡ slice_set old index became → AreMissed (seat_socket i) calls → more ≡ [] → ((its : Conn) → became.conn ≡ Some its → its.number ≡ n → ⊥) → n < after → after ≤ 2 ^ 64 - 1 → Reaches i n t (g ++ more) calls new after
 other_lives i n t g old next calls more new after index became l far e missed none other below limit = inl (
   missed_open (seat_socket i) calls missed,
   record {
@@ -190,7 +208,9 @@ other_lives i n t g old next calls more new after index became l far e missed no
           absurd (other its (sym (ap (λ (x : Seat). x.conn) (got_set old index became o here_is)) ∙ is) same)
       | inr away ↦ l.alone j o its (sym (get_other old index j became away.1) ∙ (sym (ap (λ (s : List Seat). slice_get s j) e) ∙ at)) is same
     ];
-    balance = balance_as (t ++ takes (seat_socket i) calls) t g (g ++ more) l.seat.backlog l.seat.backlog l.conn.failed l.conn.failed (took_none (seat_socket i) t calls missed) (gave_none g more none) refl refl l.balance;
+    stays = open_both (seat_socket i) t calls l.stays (missed_open (seat_socket i) calls missed);
+    balance = balance_as (takes (seat_socket i) (t ++ calls)) (takes (seat_socket i) t) g (g ++ more) l.seat.backlog l.seat.backlog l.conn.failed l.conn.failed (took_none (seat_socket i) t calls l.stays missed) (gave_none g more none) refl refl l.balance;
+    why = λ bad. fails_later (seat_socket i) t calls g more (l.why bad);
     below = below;
     limit = limit;
     places = ap (λ (s : List Seat). length s) e ∙ (length-set old index became ∙ l.places);
@@ -198,13 +218,13 @@ other_lives i n t g old next calls more new after index became l far e missed no
 )
 
 -- A step at its own place.
-here_lives : (i n : ℕ) (t g : List ℕ) (old : List Seat) (next : ℕ) (calls : List Call) (more : List ℕ) (new : List Seat) (after : ℕ) (seat : Seat) (conn : Conn) (became : Seat) (now : Conn) → Lives i n t g old next → slice_get old i ≡ Some seat → seat.conn ≡ Some conn → Keeps (seat_socket i) seat conn more calls became now → new ≡ slice_set old i became → after ≡ next → Reaches i n t (g ++ more) calls new after
+here_lives : (i n : ℕ) (t : List Call) (g : List ℕ) (old : List Seat) (next : ℕ) (calls : List Call) (more : List ℕ) (new : List Seat) (after : ℕ) (seat : Seat) (conn : Conn) (became : Seat) (now : Conn) → Lives i n t g old next → slice_get old i ≡ Some seat → seat.conn ≡ Some conn → Keeps (seat_socket i) seat conn more calls became now → new ≡ slice_set old i became → after ≡ next → Reaches i n t (g ++ more) calls new after
 here_lives i n t g old next calls more new after seat conn became now l there is k e same =
     let seats : seat ≡ l.seat = (let p = l.there in cc) in
     let conns : conn ≡ l.conn = (let p = l.is in cc) in
     let name : now.number ≡ n = k.named ∙ (ap (λ (c : Conn). c.number) conns ∙ l.named) in
-    let before : Balance t g seat.backlog conn.failed =
-    balance_as t t g g l.seat.backlog seat.backlog l.conn.failed conn.failed refl refl (ap (λ (x : Seat). x.backlog) seats) (ap (λ (c : Conn). c.failed) conns) l.balance in
+    let before : Balance (takes (seat_socket i) t) g seat.backlog conn.failed =
+    balance_as (takes (seat_socket i) t) (takes (seat_socket i) t) g g l.seat.backlog seat.backlog l.conn.failed conn.failed refl refl (ap (λ (x : Seat). x.backlog) seats) (ap (λ (c : Conn). c.failed) conns) l.balance in
     inl (
       k.stays,
       record {
@@ -217,33 +237,37 @@ here_lives i n t g old next calls more new after seat conn became now l there is
           | inl here ↦ sym here.1
           | inr away ↦ l.alone j o its (sym (get_other old i j became away.1) ∙ (sym (ap (λ (s : List Seat). slice_get s j) e) ∙ at)) has same
         ];
-        balance = k.balance t g before;
+        stays = open_both (seat_socket i) t calls l.stays k.stays;
+        balance = balance_as (takes (seat_socket i) (t ++ calls)) (takes (seat_socket i) t ++ takes (seat_socket i) calls) (g ++ more) (g ++ more) became.backlog became.backlog now.failed now.failed (takes_both (seat_socket i) t calls l.stays) refl refl refl (k.balance (takes (seat_socket i) t) g before);
+        why = λ bad. elim (k.why (takes (seat_socket i) t) g before bad) [
+          | inl was ↦ fails_later (seat_socket i) t calls g more (l.why (sym (ap (λ (c : Conn). c.failed) conns) ∙ was))
+          | inr now_bad ↦ fails_behind (seat_socket i) t calls (g ++ more) now_bad
+        ];
         below = subst (λ (x : ℕ). n < x) (sym same) l.below;
         limit = subst (λ (x : ℕ). x ≤ 2 ^ 64 - 1) (sym same) l.limit;
         places = ap (λ (s : List Seat). length s) e ∙ (length-set old i became ∙ l.places);
       },
     )
 
-here_ends : (i n : ℕ) (t g : List ℕ) (old : List Seat) (next : ℕ) (calls : List Call) (more : List ℕ) (seat : Seat) → Lives i n t g old next → slice_get old i ≡ Some seat → Shuts (seat_socket i) seat calls → more ≡ [] → Ends (seat_socket i) t (g ++ more) calls
+here_ends : (i n : ℕ) (t : List Call) (g : List ℕ) (old : List Seat) (next : ℕ) (calls : List Call) (more : List ℕ) (seat : Seat) → Lives i n t g old next → slice_get old i ≡ Some seat → Shuts (seat_socket i) seat calls → more ≡ [] → Ends (seat_socket i) (takes (seat_socket i) t) (g ++ more) calls
 here_ends i n t g old next calls more seat l there s none =
     let seats : seat ≡ l.seat = (let p = l.there in cc) in
     let b = l.balance in
-    let s' = seat_socket i in
     let lost = s.front in (
       s.cut,
       (
         s.shut,
         (
           lost.0 ++ b.0,
-          append_assoc t (takes (seat_socket i) calls) (lost.0 ++ b.0)
-              ∙ (ap (λ (l : List ℕ). t ++ l) (sym (append_assoc (takes (seat_socket i) calls) lost.0 b.0) ∙ ap (λ (l : List ℕ). l ++ b.0) (lost.1 ∙ ap (λ (x : Seat). x.backlog) seats))
+          append_assoc (takes (seat_socket i) t) (takes (seat_socket i) calls) (lost.0 ++ b.0)
+              ∙ (ap (λ (l : List ℕ). takes (seat_socket i) t ++ l) (sym (append_assoc (takes (seat_socket i) calls) lost.0 b.0) ∙ ap (λ (l : List ℕ). l ++ b.0) (lost.1 ∙ ap (λ (x : Seat). x.backlog) seats))
               ∙ (b.1.0 ∙ sym (gave_none g more none))),
         ),
       ),
     )
 
 -- The place of another connection is another place, with another number.
-far_from : (i n : ℕ) (t g : List ℕ) (old : List Seat) (next index : ℕ) (seat : Seat) → Lives i n t g old next → slice_get old index ≡ Some seat → seat.conn ≡ None → index ≡ i → ⊥
+far_from : (i n : ℕ) (t : List Call) (g : List ℕ) (old : List Seat) (next index : ℕ) (seat : Seat) → Lives i n t g old next → slice_get old index ≡ Some seat → seat.conn ≡ None → index ≡ i → ⊥
 far_from i n t g old next index seat l there none e =
     let at : slice_get old i ≡ Some seat = ap (λ (k : ℕ). slice_get old k) (sym e) ∙ there in
     let p = l.there in
@@ -254,14 +278,30 @@ far_from i n t g old next index seat l there none e =
 missed_at : (i index : ℕ) (calls : List Call) → i < 24 → index < 24 → (index ≡ i → ⊥) → MissesOthers (seat_socket index) calls → AreMissed (seat_socket i) calls
 missed_at i index calls p q n m = m (seat_socket i) (places_differ i index p q (λ e. n (sym e)))
 
-inside : (i n : ℕ) (t g : List ℕ) (old : List Seat) (next index : ℕ) (seat : Seat) → Lives i n t g old next → slice_get old index ≡ Some seat → index < 24
+inside : (i n : ℕ) (t : List Call) (g : List ℕ) (old : List Seat) (next index : ℕ) (seat : Seat) → Lives i n t g old next → slice_get old index ≡ Some seat → index < 24
 inside i n t g old next index seat l there = subst (λ (k : ℕ). index < k) l.places (slice_get_within old index seat there)
 
-pub move_lives : (i n : ℕ) (t g : List ℕ) (old : List Seat) (next : ℕ) (calls : List Call) (given : ℕ → List ℕ) (new : List Seat) (after : ℕ) → Moves old next calls given new after → Lives i n t g old next → Reaches i n t (g ++ given n) calls new after
+lives_more : (i n : ℕ) (t : List Call) (g : List ℕ) (old : List Seat) (next : ℕ) (calls : List Call) → AreMissed (seat_socket i) calls → Lives i n t g old next → Lives i n (t ++ calls) g old next
+lives_more i n t g old next calls missed l = record {
+  seat = l.seat;
+  conn = l.conn;
+  there = l.there;
+  is = l.is;
+  named = l.named;
+  alone = l.alone;
+  stays = open_both (seat_socket i) t calls l.stays (missed_open (seat_socket i) calls missed);
+  balance = balance_as (takes (seat_socket i) (t ++ calls)) (takes (seat_socket i) t) g g l.seat.backlog l.seat.backlog l.conn.failed l.conn.failed (took_none (seat_socket i) t calls l.stays missed) refl refl refl l.balance;
+  why = λ bad. subst (λ (h : List ℕ). MayFail (seat_socket i) (t ++ calls) h) (append-nil g) (fails_later (seat_socket i) t calls g [] (l.why bad));
+  below = l.below;
+  limit = l.limit;
+  places = l.places;
+}
+
+pub move_lives : (i n : ℕ) (t : List Call) (g : List ℕ) (old : List Seat) (next : ℕ) (calls : List Call) (given : ℕ → List ℕ) (new : List Seat) (after : ℕ) → Moves old next calls given new after → Lives i n t g old next → Reaches i n t (g ++ given n) calls new after
 move_lives i n t g old next calls given new after (rests m same still none) l =
     let missed = m (seat_socket i) (place_is i (inside i n t g old next i l.seat l l.there)) in
     let nothing : given n ≡ [] = ap given (sym l.named) ∙ none i l.seat l.conn l.there l.is in
-    inl (missed_open (seat_socket i) calls missed, lives_as i n (t ++ takes (seat_socket i) calls) t g (g ++ given n) old new next after (took_none (seat_socket i) t calls missed) (gave_none g (given n) nothing) same still l)
+    inl (missed_open (seat_socket i) calls missed, lives_as i n (t ++ calls) (t ++ calls) g (g ++ given n) old new next after refl (gave_none g (given n) nothing) same still (lives_more i n t g old next calls missed l))
 move_lives i n t g old next calls given new after (comes index seat there free m e up none) l =
     let missed = m (seat_socket i) (place_is i (inside i n t g old next i l.seat l l.there)) in
     let under = l.below in
@@ -297,19 +337,22 @@ move_lives i n t g old next calls given new after (shuts index seat conn there i
 ]
 
 -- Calls behind calls.
-pub reach_then : (i n : ℕ) (t g h : List ℕ) (xs ys : List Call) (mid seats : List Seat) (between next : ℕ) → Reaches i n t g xs mid between → ((s : List ℕ) → Lives i n s g mid between → Reaches i n s (g ++ h) ys seats next) → Reaches i n t (g ++ h) (xs ++ ys) seats next
+pub reach_then : (i n : ℕ) (t : List Call) (g h : List ℕ) (xs ys : List Call) (mid seats : List Seat) (between next : ℕ) → Reaches i n t g xs mid between → ((s : List Call) → Lives i n s g mid between → Reaches i n s (g ++ h) ys seats next) → Reaches i n t (g ++ h) (xs ++ ys) seats next
 reach_then i n t g h xs ys mid seats between next r k = elim r [
   | inl up ↦
-      let s = seat_socket i in
       let both = takes_both (seat_socket i) xs ys up.0 in
-      let joined : t ++ takes (seat_socket i) (xs ++ ys) ≡ (t ++ takes (seat_socket i) xs) ++ takes (seat_socket i) ys = ap (λ (l : List ℕ). t ++ l) both ∙ sym (append_assoc t (takes (seat_socket i) xs) (takes (seat_socket i) ys)) in
-      elim (k (t ++ takes (seat_socket i) xs) up.1) [
-        | inl on ↦ inl (open_both (seat_socket i) xs ys up.0 on.0, subst (λ (l : List ℕ). Lives i n l (g ++ h) seats next) (sym joined) on.1)
+      let before = (open_split (seat_socket i) t xs up.1.stays).0 in
+      let all : takes (seat_socket i) t ++ takes (seat_socket i) (xs ++ ys) ≡ takes (seat_socket i) (t ++ xs) ++ takes (seat_socket i) ys =
+      ap (λ (l : List ℕ). takes (seat_socket i) t ++ l) both
+      ∙ (sym (append_assoc (takes (seat_socket i) t) (takes (seat_socket i) xs) (takes (seat_socket i) ys))
+      ∙ ap (λ (l : List ℕ). l ++ takes (seat_socket i) ys) (sym (takes_both (seat_socket i) t xs before))) in
+      elim (k (t ++ xs) up.1) [
+        | inl on ↦ inl (open_both (seat_socket i) xs ys up.0 on.0, subst (λ (l : List Call). Lives i n l (g ++ h) seats next) (append_assoc t xs ys) on.1)
         | inr end ↦ inr (
           λ zs.
               ap (λ (cs : List Call). takes (seat_socket i) cs) (append_assoc xs ys zs)
               ∙ (takes_both (seat_socket i) xs (ys ++ zs) up.0 ∙ (ap (λ (l : List ℕ). takes (seat_socket i) xs ++ l) (end.0 zs) ∙ sym both)),
-          (λ o. end.1.0 (open_split (seat_socket i) xs ys o).1, (end.1.1.0, ap (λ (l : List ℕ). l ++ end.1.1.0) joined ∙ end.1.1.1)),
+          (λ o. end.1.0 (open_split (seat_socket i) xs ys o).1, (end.1.1.0, ap (λ (l : List ℕ). l ++ end.1.1.0) all ∙ end.1.1.1)),
         )
       ]
   | inr end ↦ inr (
@@ -318,7 +361,8 @@ reach_then i n t g h xs ys mid seats between next r k = elim r [
       λ o. end.1.0 (open_split (seat_socket i) xs ys o).0,
       (
         end.1.1.0 ++ h,
-        ap (λ (l : List ℕ). (t ++ l) ++ (end.1.1.0 ++ h)) (end.0 ys) ∙ (sym (append_assoc (t ++ takes (seat_socket i) xs) end.1.1.0 h) ∙ ap (λ (l : List ℕ). l ++ h) end.1.1.1),
+        ap (λ (l : List ℕ). (takes (seat_socket i) t ++ l) ++ (end.1.1.0 ++ h)) (end.0 ys)
+            ∙ (sym (append_assoc (takes (seat_socket i) t ++ takes (seat_socket i) xs) end.1.1.0 h) ∙ ap (λ (l : List ℕ). l ++ h) end.1.1.1),
       ),
     ),
   )

@@ -1,5 +1,5 @@
 -- What the clients' connections got over a whole run.
-use Rattle.std.specs.Prelude.{◌≡◌, ◌≤◌, ◌<◌, ◌-◌, ◌^◌, ◌==◌, ℕ, Bool, false, if◌then◌else◌, List, [], ◌∷◌, ◌++◌, length, take, slice_get}
+use Rattle.std.specs.Prelude.{◌≡◌, ◌⊎◌, ◌≤◌, ◌<◌, ◌-◌, ◌^◌, ◌==◌, ℕ, Bool, true, false, if◌then◌else◌, List, [], ◌∷◌, ◌++◌, length, take, slice_get}
 use Rattle.std.specs.List.{AllByRecursion}
 use Rattle.std.specs.declared.option.Option.{Option}
 use Rattle.std.specs.declared.option.Option.TheVariants.{None, Some}
@@ -85,14 +85,23 @@ abbrev pub replies_to : (number : ℕ) → List Exchange → List ℕ
 replies_to number [] = []
 replies_to number (x ∷ xs) = replied_in number x ++ replies_to number xs
 
+-- A write to the stream of this socket went wrong.
+abbrev pub WriteFailed : (socket : ℕ) → List Call → Type 0
+WriteFailed socket calls = (before : List Call) × (bytes : List ℕ) × (after : List Call) × (calls ≡ before ++ call.write socket bytes None ∷ after)
+
+-- What may have failed a connection that was given these bytes: such a write, or more bytes than may wait.
+abbrev pub MayFail : (socket : ℕ) → List Call → (given : List ℕ) → Type 0
+MayFail socket calls given = WriteFailed socket calls ⊎ (65537 < length given)
+
 -- A connection that came at this place, under this number, before these exchanges and calls: what its stream took until it was closed is a front
--- of its replies. While it isn't closed it stands at its place, and unless it has failed, what its stream took, with what waits for it, is exactly
--- its replies, in order.
+-- of its replies. While it isn't closed it stands at its place. What its stream took, with what waits for it, is then exactly its replies, in
+-- order, unless it has failed.
 abbrev pub IsAnswered : (index number : ℕ) → List Exchange → List Call → List Seat → Type 0
 IsAnswered index number xs calls seats =
     ((rest : List ℕ) × (takes (seat_socket index) calls ++ rest ≡ replies_to number xs))
     × (StaysOpen (seat_socket index) calls → (seat : Seat) × (conn : Conn) × ((slice_get seats index ≡ Some seat) × ((seat.conn ≡ Some conn) × ((conn.number ≡ number)
-    × (conn.failed ≡ false → takes (seat_socket index) calls ++ seat.backlog ≡ replies_to number xs)))))
+    × ((conn.failed ≡ false → takes (seat_socket index) calls ++ seat.backlog ≡ replies_to number xs)
+    × (conn.failed ≡ true → MayFail (seat_socket index) calls (replies_to number xs)))))))
 
 -- So is each connection that comes, as long as there is a next number. The last call that was made for its event has its place.
 abbrev pub UpIsAnswered : Kind → (id : ℕ) → (mine : List Call) → List Exchange → (others : List Call) → List Seat → Type 0

@@ -20,9 +20,10 @@ pub fn replies_are_sent<S: System>()
 /// part that was read. Each reply is one datagram with exactly its bytes to its client. Each query is one datagram with exactly its bytes, from
 /// the address that is sent from and its local port, to port 53 of its server, unless that is refused or all links stand; no other datagram is
 /// sent. What was printed, with what is still gathered, is the lines, whole and in order, where each print went well. What the stream of a
-/// connection that came took until it was closed is a front of its replies, in order; while it isn't closed it stands, and unless it has
-/// failed, what its stream took, with what waits for it, is exactly its replies, in order. That is said of each connection that comes under a
-/// number below the last, where the numbers at the places are in order at first: `places_are_numbered`.
+/// connection that came took until it was closed is a front of its replies, in order. While it isn't closed it stands, and what its stream
+/// took, with what waits for it, is exactly its replies, in order, unless it has failed: by a write that went wrong, or where its replies have
+/// more than 65537 bytes. That is said of each connection that comes under a number below the last, where the numbers at the places are in
+/// order at first: `places_are_numbered`.
 pub fn service_is_seen<S: System>()
     ensures { (a b : Shown S) (xs : List Exchange) → Explained S.called a xs b → RunsService S.called a xs b }
 {}
