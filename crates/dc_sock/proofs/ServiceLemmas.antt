@@ -44,7 +44,9 @@ use Rattle.dc_sock.specs.Links.{Goes, LooksAt, link_socket}
 use Rattle.dc_sock.specs.Log.{Gathered, PrintsText, PutsLineIf, LinesIf}
 use Rattle.dc_sock.specs.SeatCalls.{PutsConn, PutsSeat, conn_step, ReadsBehind, LooksAtConn, LooksAtSeat}
 use Rattle.dc_sock.specs.World.{Shown, Makes, Gave, Explained}
-use Rattle.dc_sock.specs.Service.{NoLetter, IsPlain, ArePlain, ComesBy, Came, Said, Done, Serves, printed_by, printed, IsPrinted, line_by, lines_in, RunsService}
+use Rattle.dc_sock.specs.Service.{NoLetter, NotTaken, IsPlain, ArePlain, ComesBy, Came, Said, Done, Serves, printed_by, printed, IsPrinted, line_by, lines_in, PrintsLines, RunsService}
+use Rattle.dc_sock.specs.Streams.{joined}
+use Rattle.dc_sock.proofs.AnswerLemmas.{parts_of, all_answered}
 use Rattle.dc_sock.proofs.SeatLemmas.{each_append}
 
 -- A call that is plain and prints nothing.
@@ -82,6 +84,12 @@ receive_plain wake s received.Nothing a b bytes p = tt
 receive_plain wake s (received.Datagram letter) a b bytes p = absurd p.0
 receive_plain wake s received.Failed a b bytes p = tt
 
+accept_plain : (a : Edge) (s : ℕ) (answer : Accepted) (b : Edge) → QuietAccept a s answer b → NotTaken s answer
+accept_plain a s accepted.Nothing b p = tt
+accept_plain a s accepted.Aborted b p = tt
+accept_plain a s accepted.Failed b p = tt
+accept_plain a s (accepted.Connection peer) b p = p.0
+
 call_plain : (wake : Option ℕ) (a : Edge) (x : Call) (b : Edge) → QuietCall wake a x b → IsPlain x
 call_plain wake a (call.bind s addr port answer) b p = absurd p
 call_plain wake a (call.connect s addr port answer) b p = absurd p
@@ -89,7 +97,7 @@ call_plain wake a (call.send s bytes answer) b p = absurd p
 call_plain wake a (call.send_to s addr port bytes answer) b p = absurd p
 call_plain wake a (call.receive s answer bytes) b p = receive_plain wake s answer a b bytes p
 call_plain wake a (call.listen s addr port answer) b p = absurd p
-call_plain wake a (call.accept l s answer) b p = tt
+call_plain wake a (call.accept l s answer) b p = accept_plain a s answer b p
 call_plain wake a (call.begin s addr port server to answer) b p = absurd p
 call_plain wake a (call.stands s answer) b p = tt
 call_plain wake a (call.read s answer bytes) b p = tt
@@ -499,87 +507,64 @@ silent_then before between after rest mine others p q w =
     prints_then before between after [] rest mine others (λ v. p ∙ sym (append-nil before)) q w
 
 module _ {S : Type 0} (called : S → List Call → S → Type 0) (none : (a : S) → called a [] a) (join : (a b c : S) (xs ys : List Call) → called a xs b → called b ys c → called a (xs ++ ys) c) where
-  pub runs_service : (a b : Shown S) (xs : List Exchange) → Explained called a xs b → RunsService called a xs b
-  runs_service a b [] p =
-      let same : b.edge.log.text ≡ a.edge.log.text = ap (λ (w : Shown S). w.edge.log.text) p in
-      ([], (subst (λ (w : Shown S). called a.system [] w.system) (sym p) (none a.system), (refl, λ w. same ∙ sym (append-nil a.edge.log.text))))
-  runs_service a b (listened addr send_from ok ∷ xs) p =
-      let one = p.1.0 in
-      let l = one.1.1.0 in
-      let rest = runs_service p.0 b xs p.1.1 in
-      let port : p.0.port ≡ a.port = ap (λ (w : Shown S). w.port) one.1.1.1 in
+  -- The calls of each exchange were made, one after the other.
+  parts_called : (a b : Shown S) (xs : List Exchange) (p : Explained called a xs b) → called a.system (joined (parts_of called a b xs p)) b.system
+  parts_called a b [] p = subst (λ (w : Shown S). called a.system [] w.system) (sym p) (none a.system)
+  parts_called a b (x ∷ xs) p = join _ _ _ _ _ p.1.0.1.0 (parts_called p.0 b xs p.1.1)
+
+  -- They serve it.
+  parts_serve : (a b : Shown S) (xs : List Exchange) (p : Explained called a xs b) → Serves a.port a.edge.hears a.edge.from xs (parts_of called a b xs p)
+  parts_serve a b [] p = refl
+  parts_serve a b (listened addr send_from ok ∷ xs) p =
+      let l = p.1.0.1.1.0 in
+      let rest = parts_of called p.0 b xs p.1.1 in
+      let port : p.0.port ≡ a.port = ap (λ (w : Shown S). w.port) p.1.0.1.1.1 in
       let hears : p.0.edge.hears ≡ hears_after a.edge.hears l.0.0 = l.0.1.1.1 in
-      let from : p.0.edge.from ≡ (if ok then send_from else a.edge.from) = ap (λ (e : Edge). e.from) l.1 in
-      let text : printed one.0 ++ p.0.edge.log.text ≡ a.edge.log.text = ap (λ cs. printed cs ++ p.0.edge.log.text) l.0.1.0 ∙ (ap (λ t. t ++ p.0.edge.log.text) (hearing_silent l.0.0 addr a.port) ∙ ap (λ (e : Edge). e.log.text) l.1) in (
-        one.0 ++ rest.0,
+      let from : p.0.edge.from ≡ (if ok then send_from else a.edge.from) = ap (λ (e : Edge). e.from) l.1 in (
+        l.0.0,
         (
-          join _ _ _ _ _ one.1.0 rest.1.0,
+          l.0.1.0,
           (
-            (
-              l.0.0,
-              rest.0,
-              (
-                ap (λ cs. cs ++ rest.0) l.0.1.0,
-                (
-                  l.0.1.1.0,
-                  subst (λ (n : ℕ). Serves n (hears_after a.edge.hears l.0.0) (if ok then send_from else a.edge.from) xs rest.0) port
-                      (subst (λ (h : Bool). Serves p.0.port h (if ok then send_from else a.edge.from) xs rest.0) hears
-                      (subst (λ (f : List ℕ). Serves p.0.port p.0.edge.hears f xs rest.0) from rest.1.1.0)),
-                ),
-              ),
-            ),
-            λ w. silent_then a.edge.log.text p.0.edge.log.text b.edge.log.text (lines_in xs) one.0 rest.0 text rest.1.1.1 w,
+            l.0.1.1.0,
+            subst (λ (n : ℕ). Serves n (hears_after a.edge.hears l.0.0) (if ok then send_from else a.edge.from) xs rest) port
+                (subst (λ (h : Bool). Serves p.0.port h (if ok then send_from else a.edge.from) xs rest) hears
+                (subst (λ (f : List ℕ). Serves p.0.port p.0.edge.hears f xs rest) from (parts_serve p.0 b xs p.1.1))),
           ),
         ),
       )
-  runs_service a b (gathered e ∷ xs) p = absurd p.1.0.1.1
-  runs_service a b (asked wake said ∷ xs) p =
-      let one = p.1.0 in
-      let s = said_comes wake said a.edge one.0 p.0.edge one.1.1.0 in
-      let rest = runs_service p.0 b xs p.1.1 in
-      let port : p.0.port ≡ a.port = ap (λ (w : Shown S). w.port) one.1.1.1 in (
-        one.0 ++ rest.0,
-        (
-          join _ _ _ _ _ one.1.0 rest.1.0,
-          (
-            (
-              one.0,
-              rest.0,
-              (
-                refl,
-                (
-                  s.0,
-                  subst (λ (n : ℕ). Serves n a.edge.hears a.edge.from xs rest.0) port
-                      (subst (λ (o : Bool × List ℕ). Serves p.0.port o.0 o.1 xs rest.0) s.1.0 rest.1.1.0),
-                ),
-              ),
-            ),
-            λ w. silent_then a.edge.log.text p.0.edge.log.text b.edge.log.text (lines_in xs) one.0 rest.0 s.1.1 rest.1.1.1 w,
-          ),
-        ),
+  parts_serve a b (gathered e ∷ xs) p = absurd p.1.0.1.1
+  parts_serve a b (asked wake said ∷ xs) p =
+      let s = said_comes wake said a.edge p.1.0.0 p.0.edge p.1.0.1.1.0 in
+      let rest = parts_of called p.0 b xs p.1.1 in
+      let port : p.0.port ≡ a.port = ap (λ (w : Shown S). w.port) p.1.0.1.1.1 in (
+        s.0,
+        subst (λ (n : ℕ). Serves n a.edge.hears a.edge.from xs rest) port
+            (subst (λ (o : Bool × List ℕ). Serves p.0.port o.0 o.1 xs rest) s.1.0 (parts_serve p.0 b xs p.1.1)),
       )
-  runs_service a b (did x ∷ xs) p =
-      let one = p.1.0 in
-      let d = makes_does x a.edge one.0 p.0.edge one.1.1.0 in
-      let rest = runs_service p.0 b xs p.1.1 in
-      let port : p.0.port ≡ a.port = ap (λ (w : Shown S). w.port) one.1.1.1 in (
-        one.0 ++ rest.0,
-        (
-          join _ _ _ _ _ one.1.0 rest.1.0,
-          (
-            (
-              one.0,
-              rest.0,
-              (
-                refl,
-                (
-                  d.0,
-                  subst (λ (n : ℕ). Serves n a.edge.hears a.edge.from xs rest.0) port
-                      (subst (λ (o : Bool × List ℕ). Serves p.0.port o.0 o.1 xs rest.0) d.1.0 rest.1.1.0),
-                ),
-              ),
-            ),
-            λ w. prints_then a.edge.log.text p.0.edge.log.text b.edge.log.text (line_by x) (lines_in xs) one.0 rest.0 d.1.1 rest.1.1.1 w,
-          ),
-        ),
+  parts_serve a b (did x ∷ xs) p =
+      let d = makes_does x a.edge p.1.0.0 p.0.edge p.1.0.1.1.0 in
+      let rest = parts_of called p.0 b xs p.1.1 in
+      let port : p.0.port ≡ a.port = ap (λ (w : Shown S). w.port) p.1.0.1.1.1 in (
+        d.0,
+        subst (λ (n : ℕ). Serves n a.edge.hears a.edge.from xs rest) port
+            (subst (λ (o : Bool × List ℕ). Serves p.0.port o.0 o.1 xs rest) d.1.0 (parts_serve p.0 b xs p.1.1)),
       )
+
+  -- They print its lines.
+  parts_print : (a b : Shown S) (xs : List Exchange) (p : Explained called a xs b) → PrintsLines a.edge.log.text b.edge.log.text xs (joined (parts_of called a b xs p))
+  parts_print a b [] p = λ w. ap (λ (x : Shown S). x.edge.log.text) p ∙ sym (append-nil a.edge.log.text)
+  parts_print a b (listened addr send_from ok ∷ xs) p =
+      let l = p.1.0.1.1.0 in
+      let text : printed p.1.0.0 ++ p.0.edge.log.text ≡ a.edge.log.text = ap (λ cs. printed cs ++ p.0.edge.log.text) l.0.1.0 ∙ (ap (λ t. t ++ p.0.edge.log.text) (hearing_silent l.0.0 addr a.port) ∙ ap (λ (e : Edge). e.log.text) l.1) in
+      λ w. silent_then a.edge.log.text p.0.edge.log.text b.edge.log.text (lines_in xs) p.1.0.0 (joined (parts_of called p.0 b xs p.1.1)) text (parts_print p.0 b xs p.1.1) w
+  parts_print a b (gathered e ∷ xs) p = absurd p.1.0.1.1
+  parts_print a b (asked wake said ∷ xs) p =
+      let s = said_comes wake said a.edge p.1.0.0 p.0.edge p.1.0.1.1.0 in
+      λ w. silent_then a.edge.log.text p.0.edge.log.text b.edge.log.text (lines_in xs) p.1.0.0 (joined (parts_of called p.0 b xs p.1.1)) s.1.1 (parts_print p.0 b xs p.1.1) w
+  parts_print a b (did x ∷ xs) p =
+      let d = makes_does x a.edge p.1.0.0 p.0.edge p.1.0.1.1.0 in
+      λ w. prints_then a.edge.log.text p.0.edge.log.text b.edge.log.text (line_by x) (lines_in xs) p.1.0.0 (joined (parts_of called p.0 b xs p.1.1)) d.1.1 (parts_print p.0 b xs p.1.1) w
+
+  pub runs_service : (a b : Shown S) (xs : List Exchange) → Explained called a xs b → RunsService called a xs b
+  runs_service a b xs p =
+      (parts_of called a b xs p, (parts_called a b xs p, (parts_serve a b xs p, (parts_print a b xs p, λ o. all_answered called a b xs p o))))

@@ -9,14 +9,16 @@ use Rattle.dc_system.specs.Call.{Call}
 use Rattle.dc_system.specs.Call as call
 use Rattle.dc_system.specs.declared.answers.Bound.{Bound}
 use Rattle.dc_system.specs.declared.answers.Letter.{Letter}
+use Rattle.dc_system.specs.declared.answers.Accepted.{Accepted}
 use Rattle.dc_system.specs.declared.answers.Accepted.TheVariants as accepted
 use Rattle.dc_system.specs.declared.answers.Part.TheVariants as part
 use Rattle.dc_system.specs.declared.answers.Peer.{Peer}
 use Rattle.dc_system.specs.declared.answers.Received.{Received}
 use Rattle.dc_system.specs.declared.answers.Received.TheVariants as received
 use Rattle.dc_sock.specs.declared.link.Opening.{Opening}
-use Rattle.dc_sock.specs.ClientCalls.{seat_socket, Hearing, listen_calls, hears_after, went_well}
+use Rattle.dc_sock.specs.ClientCalls.{seat_socket, spare_socket, Hearing, listen_calls, hears_after, went_well}
 use Rattle.dc_sock.specs.LinkCalls.{udp_calls, tcp_calls}
+use Rattle.dc_sock.specs.Streams.{joined, IsNumbered, AllAnswered}
 use Rattle.dc_sock.specs.World.{Shown}
 
 -- No datagram came.
@@ -25,7 +27,14 @@ NoLetter received.Nothing = Unit {0}
 NoLetter (received.Datagram letter) = ⊥
 NoLetter received.Failed = Unit {0}
 
--- No datagram is sent or taken, no socket is made but of a client's connection, and none is connected.
+-- No connection was taken, but one that is turned away.
+abbrev pub NotTaken : (socket : ℕ) → Accepted → Type 0
+NotTaken socket accepted.Nothing = Unit {0}
+NotTaken socket (accepted.Connection peer) = socket ≡ spare_socket
+NotTaken socket accepted.Aborted = Unit {0}
+NotTaken socket accepted.Failed = Unit {0}
+
+-- No datagram is sent or taken, no connection is taken but to be turned away, no socket is made, and none is connected.
 abbrev pub IsPlain : Call → Type 0
 IsPlain (call.bind s addr port answer) = ⊥
 IsPlain (call.connect s addr port answer) = ⊥
@@ -33,7 +42,7 @@ IsPlain (call.send s bytes answer) = ⊥
 IsPlain (call.send_to s addr port bytes answer) = ⊥
 IsPlain (call.receive s answer bytes) = NoLetter answer
 IsPlain (call.listen s addr port answer) = ⊥
-IsPlain (call.accept l s answer) = Unit {0}
+IsPlain (call.accept l s answer) = NotTaken s answer
 IsPlain (call.begin s addr port server to answer) = ⊥
 IsPlain (call.stands s answer) = Unit {0}
 IsPlain (call.read s answer bytes) = Unit {0}
@@ -48,8 +57,8 @@ abbrev pub ArePlain : List Call → Type 0
 ArePlain calls = AllByRecursion IsPlain calls
 
 -- These calls gave an event of this kind: a request is the bytes and the sender of one datagram on the clients' socket, a datagram of a server
--- those of one on a link's socket, and no other event takes one. A connection is one that was accepted, with its peer; bytes of a stream are
--- those of one part that was read.
+-- those of one on a link's socket, and no other event takes one. A connection is one that was accepted, with its peer, and no other event takes
+-- one; bytes of a stream are those of one part that was read.
 abbrev pub ComesBy : Kind → ModelEvent → List Call → Type 0
 ComesBy request e calls = (letter : Letter) × ((calls ≡ call.receive 0 (received.Datagram letter) e.bytes ∷ []) × ((e.addr ≡ letter.addr) × (e.port ≡ letter.port)))
 ComesBy datagram e calls =
@@ -92,17 +101,16 @@ Done (link_write link bytes) hears from calls = ArePlain calls
 Done (link_close link) hears from calls = ArePlain calls
 Done (line text) hears from calls = ArePlain calls
 
--- A whole run, exchange by exchange, in order.
-abbrev pub Serves : (port : ℕ) (hears : Bool) (from : List ℕ) → List Exchange → List Call → Type 0
-Serves port hears from [] calls = calls ≡ []
-Serves port hears from (listened addr send_from ok ∷ xs) calls =
-    (hearing : Hearing) × (others : List Call) × ((calls ≡ listen_calls addr port hearing ++ others) × ((ok ≡ went_well hearing)
+-- A whole run, exchange by exchange, in order, each with the calls that were made for it.
+abbrev pub Serves : (port : ℕ) (hears : Bool) (from : List ℕ) → List Exchange → (parts : List (List Call)) → Type 0
+Serves port hears from [] parts = parts ≡ []
+Serves port hears from (x ∷ xs) [] = ⊥
+Serves port hears from (listened addr send_from ok ∷ xs) (mine ∷ others) =
+    (hearing : Hearing) × ((mine ≡ listen_calls addr port hearing) × ((ok ≡ went_well hearing)
     × Serves port (hears_after hears hearing) (if ok then send_from else from) xs others))
-Serves port hears from (asked wake answer ∷ xs) calls =
-    (mine : List Call) × (others : List Call) × ((calls ≡ mine ++ others) × (Said answer mine × Serves port hears from xs others))
-Serves port hears from (gathered e ∷ xs) calls = ⊥
-Serves port hears from (did action ∷ xs) calls =
-    (mine : List Call) × (others : List Call) × ((calls ≡ mine ++ others) × (Done action hears from mine × Serves port hears from xs others))
+Serves port hears from (asked wake answer ∷ xs) (mine ∷ others) = Said answer mine × Serves port hears from xs others
+Serves port hears from (gathered e ∷ xs) (mine ∷ others) = ⊥
+Serves port hears from (did action ∷ xs) (mine ∷ others) = Done action hears from mine × Serves port hears from xs others
 
 -- What was printed, and whether each print went well.
 abbrev pub printed_by : Call → List ℕ
@@ -171,7 +179,8 @@ lines_in (did action ∷ xs) = line_by action ++ lines_in xs
 abbrev pub PrintsLines : (before after : List ℕ) → List Exchange → List Call → Type 0
 PrintsLines before after xs calls = AllByRecursion IsPrinted calls → printed calls ++ after ≡ before ++ lines_in xs
 
--- Both, of the calls that were made in a run.
+-- All of it, of the calls that were made in a run: what came and was done, what was printed, and what the clients' connections got.
 abbrev pub RunsService : {S : Type 0} → (S → List Call → S → Type 0) → Shown S → List Exchange → Shown S → Type 0
 RunsService {S} called a xs b =
-    (calls : List Call) × (called a.system calls b.system × (Serves a.port a.edge.hears a.edge.from xs calls × PrintsLines a.edge.log.text b.edge.log.text xs calls))
+    (parts : List (List Call)) × (called a.system (joined parts) b.system × (Serves a.port a.edge.hears a.edge.from xs parts
+    × (PrintsLines a.edge.log.text b.edge.log.text xs (joined parts) × (IsNumbered a.edge.seats a.edge.next_conn → AllAnswered xs parts b.edge.seats))))
