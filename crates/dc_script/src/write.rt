@@ -14,7 +14,7 @@ use dc_event::{Put, Sink};
 use dc_writer::{Words, Writer};
 
 /// How many bytes are turned into digits at once.
-const PIECE: usize = 1024;
+const PIECE: usize = 256;
 
 /// Writes a piece of bytes in hexadecimal digits.
 fn write_digits<K: Sink>(writer: &mut Writer, sink: &mut K, piece: &[u8])
@@ -62,9 +62,9 @@ pub fn write_action<K: Sink>(sink: &mut K, action: Action<'_>) -> Put
     ensures put { PutWhole K.gained result sink.old (action_text (action_of action.entry)) sink.new }
     ensures fares { Fares K.gained K.refused K.faults (well_put result) sink.old sink.new }
 {
+    let mut writer = Writer::new();
     let mut words = Words::new();
     let rest = push_words(&mut words, &action);
-    let mut writer = Writer::new();
     writer.put(sink, words.as_slice());
     write_rest(&mut writer, sink, rest);
     writer.put(sink, b"\n");
