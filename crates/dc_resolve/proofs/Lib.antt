@@ -1,5 +1,4 @@
 pub mod ShortLemmas
-pub mod PlaceLemmas
 pub mod RowLemmas
 pub mod TurnLemmas
 pub mod NextLemmas

@@ -12,6 +12,6 @@ mod zones;
 pub use config::Config;
 pub use error::{PermitError, ZoneError};
 pub use permit::Permit;
-pub use servers::read_servers;
+pub use servers::{address_in, if_filled, read_servers};
 pub use std::alloc::AllocError as NoMemory;
 pub use zones::{Rule, Zones};

@@ -24,12 +24,19 @@ fn address_text(line: &[u8]) -> &[u8]
     line
 }
 
-/// The address with which a line begins, unless it is 0.0.0.0.
-fn address_in(line: &[u8]) -> Option<[u8; 4]>
+/// An address, unless it is 0.0.0.0.
+pub fn if_filled(found: [u8; 4]) -> Option<[u8; 4]>
+    ensures { result ≡ model.if_filled found }
+{
+    if found == [0; 4] { None } else { Some(found) }
+}
+
+/// The address with which a line begins, unless it is 0.0.0.0: its longest prefix of digits and dots.
+pub fn address_in(line: &[u8]) -> Option<[u8; 4]>
     ensures { result ≡ model.address_in line.now }
 {
     let found = address(address_text(line))?;
-    if found == [0; 4] { None } else { Some(found) }
+    if_filled(found)
 }
 
 /// The servers that a text names (after djbdns' roots.c). Lines are parted by line feeds. A line counts where its longest

@@ -8,7 +8,8 @@ use Rattle.dc_model.specs.Name.{number_value, dotted_parts}
 use Rattle.dc_event.specs.Told.{Tells, TellsAmong}
 use Rattle.dc_text.specs.Parts.{parts_of}
 use Rattle.dc_script.specs.Script.{Words, pieces_of}
-use Rattle.dc_script.specs.Text.{address_text, bytes_text, action_words, action_text, text_of, IsAddress, IsOneAction, AreOneActions}
+use Rattle.dc_model.specs.Address.{address_text}
+use Rattle.dc_script.specs.Text.{bytes_text, action_words, action_text, text_of, IsAddress, IsOneAction, AreOneActions}
 use Rattle.dc_script.specs.Written.{Written}
 use Rattle.dc_script.specs.World.{Recorded, Wrote}
 use Rattle.dc_script.proofs.ReadLemmas.{has_piece}

@@ -8,7 +8,8 @@ use Rattle.dc_model.specs.Line.{words}
 use Rattle.dc_model.specs.Places.{no_address}
 use Rattle.dc_text.specs.Numbers.{number_below}
 use Rattle.dc_script.specs.Script.{Words, words_of, kind_word, has_number, has_sender, has_bytes_word, bytes_word, taken_if, behind_at, moment_taken, kind_taken, at_end, event_said, event_of_line, most_line}
-use Rattle.dc_script.specs.Text.{address_text, bytes_text}
+use Rattle.dc_model.specs.Address.{address_text}
+use Rattle.dc_script.specs.Text.{bytes_text}
 use Rattle.dc_script.specs.EventText.{kind_text, word_if, event_words, event_text, events_text, IsWritten}
 use Rattle.dc_script.proofs.Spelling.{lacks, AllLack, split-joined, number-decimal, decimal-lacks, address-text, address-lacks, address-short, bytes-word, bytes-lack, joined-lacks, lacks-feed}
 use Rattle.dc_model.proofs.LineLemmas.{words_size, length-words, short}

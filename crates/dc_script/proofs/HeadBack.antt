@@ -12,7 +12,8 @@ use Rattle.dc_model.specs.Rules.{Zones, ZoneRefusal, add_zone, Permits, PermitRe
 use Rattle.dc_text.specs.Numbers.{number_below}
 use Rattle.dc_text.specs.Parts.{parts_of}
 use Rattle.dc_script.specs.Script.{Words, words_of, pieces_of, most_line, is_lower_digit, bytes_spelled, at_end}
-use Rattle.dc_script.specs.Text.{address_text, bytes_text}
+use Rattle.dc_model.specs.Address.{address_text}
+use Rattle.dc_script.specs.Text.{bytes_text}
 use Rattle.dc_script.specs.Heading.{HeadLine, version_line, size_line, forward_line, allow_line, root_line, zone_line, seed_line, begin_line, version_word, size_word, yes_word, seed_word, server_word, servers_said, places_said, zone_word, only_word, root_said, zone_said, heading_by, heading_said, heading_of}
 use Rattle.dc_script.specs.Head.{Head, Stage, at_version, at_size, at_forward, at_allows, at_zones, at_begin, refused, going, with_version, with_size, with_forward, with_permit, with_zone, step_by, step_said, head_step, behind, other, head_from, head_of, no_head}
 use Rattle.dc_script.specs.HeadText.{ZoneTold, HeadTold, yes_text, allow_words, zone_words, head_words, lines_onto, head_text, IsWord, IsLine, IsServer, AreServers, Allowed, Added, root_zones, BeginsWithHead}

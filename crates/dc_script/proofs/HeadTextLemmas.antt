@@ -10,7 +10,8 @@ use Rattle.dc_model.specs.Name.{Name, root}
 use Rattle.dc_model.specs.Places.{places_of}
 use Rattle.dc_model.specs.Rules.{Zones, no_zones, add_zone, Permits, add_permit, if_filled}
 use Rattle.dc_script.specs.Script.{Words, words_of, pieces_of, most_line, bytes_spelled, at_end}
-use Rattle.dc_script.specs.Text.{address_text, bytes_text}
+use Rattle.dc_model.specs.Address.{address_text}
+use Rattle.dc_script.specs.Text.{bytes_text}
 use Rattle.dc_script.specs.Heading.{version_line, size_line, forward_line, allow_line, root_line, zone_line, seed_line, begin_line, version_word, seed_word, server_word, servers_said, places_said, zone_word, only_word, root_said, zone_said, heading_by, heading_said, heading_of}
 use Rattle.dc_script.specs.Head.{Head, Stage, at_version, at_size, at_forward, at_allows, at_zones, at_begin, HeadStep, refused, going, begun, with_version, with_size, with_forward, with_permit, with_zone, rule_under, step_by, step_said, head_step, behind, head_from, head_of, no_head, script_said, said_behind}
 use Rattle.dc_script.specs.HeadText.{ZoneTold, HeadTold, yes_text, allow_words, zone_words, lines_onto, head_text, lines_of_head, IsServer, AreServers, Allowed, Added, root_zones, IsTold, head_told}

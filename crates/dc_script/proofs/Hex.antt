@@ -1,5 +1,7 @@
 -- Hexadecimal digits of bytes, in pieces.
-use Rattle.std.proofs.Common.{◌≡◌, ℕ, zero, suc, ◌*◌, ◌/◌, ◌%◌, ◌<◌, List, [], ◌∷◌, ◌++◌, length, slice_index, refl, arith, ap, ◌∙◌}
+use Rattle.std.proofs.Common.{◌≡◌, ℕ, zero, suc, ◌+◌, ◌-◌, ◌≤◌, ◌*◌, ◌/◌, ◌%◌, ◌<◌, List, [], ◌∷◌, ◌++◌, length, slice_index, take, drop, refl, sym, arith, ap, ◌∙◌}
+use Rattle.std.proofs.Math.Seq.{take-add}
+use Rattle.std.proofs.lemmas.Grind.{common_steps}
 use Rattle.hex.specs.Hex.{encode_with, encode_lower, lower_digits}
 use Rattle.dc_model.specs.Line.{hex, hex_byte, hex_digit}
 use Rattle.dc_script.specs.Text.{bytes_text}
@@ -49,12 +51,12 @@ pub bytes_text_some : (bs : List ℕ) → 0 < length bs → bytes_text bs ≡ he
 bytes_text_some [] h = absurd (omega arith)
 bytes_text_some (b ∷ bs) h = refl
 
-pub bytes_text_none : (bs : List ℕ) → length bs ≡ 0 → bytes_text bs ≡ 45 ∷ []
-bytes_text_none [] h = refl
-bytes_text_none (b ∷ bs) h = absurd (omega arith)
+-- A piece more of some bytes.
+pub piece_more : (bytes : List ℕ) (at count : ℕ) → take at bytes ++ take (at + count - at) (drop at bytes) ≡ take (at + count) bytes
+piece_more bytes at count = let e : at + count - at ≡ count = omega arith in rw e (sym (take-add at count bytes))
 
-pub length-bytes_text_some : (bs : List ℕ) → 0 < length bs → length (bytes_text bs) ≡ 2 * length bs
-length-bytes_text_some bs h = ap length (bytes_text_some bs h) ∙ length-hex bs
+pub take_whole : (bytes : List ℕ) (at : ℕ) → length bytes ≤ at → take at bytes ≡ bytes
+take_whole bytes at h = grind (arith, common_steps)
 
-pub length-bytes_text_none : (bs : List ℕ) → length bs ≡ 0 → length (bytes_text bs) ≡ 1
-length-bytes_text_none bs h = ap length (bytes_text_none bs h)
+pub hex_more : (bytes : List ℕ) (at count : ℕ) → hex (take at bytes) ++ hex (take (at + count - at) (drop at bytes)) ≡ hex (take (at + count) bytes)
+hex_more bytes at count = sym (hex-append (take at bytes) (take (at + count - at) (drop at bytes))) ∙ ap hex (piece_more bytes at count)

@@ -1,6 +1,4 @@
-pub mod Texts
 pub mod Hex
-pub mod Passing
 pub mod Feeds
 pub mod Filling
 pub mod Searching

@@ -12,7 +12,8 @@ use Rattle.dc_model.specs.Line.{words, hex, hex_byte, hex_digit}
 use Rattle.dc_model.specs.Places.{no_address}
 use Rattle.dc_text.specs.Numbers.{number_below}
 use Rattle.dc_script.specs.Script.{Words, words_of, is_lower_digit, lower_value, bytes_spelled, spells, is_dash, bytes_word, kind_word, has_number, has_sender, has_bytes_word, taken_if, behind_at, moment_taken, kind_taken, at_end, event_said, event_of_line}
-use Rattle.dc_script.specs.Text.{address_text, bytes_text}
+use Rattle.dc_model.specs.Address.{address_text}
+use Rattle.dc_script.specs.Text.{bytes_text}
 use Rattle.dc_script.specs.EventText.{kind_text, word_if, event_words, event_text, IsWritten}
 use Rattle.dc_script.proofs.Hex.{bytes_text_some}
 use Rattle.dc_script.proofs.Spelling.{own}

@@ -13,7 +13,8 @@ use Rattle.dc_text.specs.Parts.{parts_of}
 use Rattle.dc_script.specs.Lines.{IsOneLine}
 use Rattle.dc_model.proofs.LineLemmas.{words_size}
 use Rattle.dc_script.specs.Script.{Words, is_lower_digit, lower_value, bytes_spelled, spells, is_dash, bytes_word}
-use Rattle.dc_script.specs.Text.{address_text, bytes_text}
+use Rattle.dc_model.specs.Address.{address_text}
+use Rattle.dc_script.specs.Text.{bytes_text}
 use Rattle.dc_script.proofs.Hex.{length-hex}
 use Rattle.std.proofs.Common.{rules}
 

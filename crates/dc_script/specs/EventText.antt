@@ -5,7 +5,8 @@ use Rattle.dc_model.specs.Event.{Event, IsEvent, Kind, tick, request, datagram, 
 use Rattle.dc_model.specs.Line.{words}
 use Rattle.dc_model.specs.Places.{no_address}
 use Rattle.dc_script.specs.Script.{Words, has_number, has_sender, has_bytes_word}
-use Rattle.dc_script.specs.Text.{address_text, bytes_text}
+use Rattle.dc_model.specs.Address.{address_text}
+use Rattle.dc_script.specs.Text.{bytes_text}
 use Rattle.dc_script.specs.Read.{end_text}
 
 -- The word of a kind.

@@ -7,7 +7,8 @@ use Rattle.dc_model.specs.Name.{Name, root}
 use Rattle.dc_model.specs.Places.{no_address, is_empty_place, empty_places, places_of}
 use Rattle.dc_model.specs.Rules.{Zones, one, add_zone, Permits, add_permit}
 use Rattle.dc_script.specs.Script.{Words, most_line}
-use Rattle.dc_script.specs.Text.{address_text, bytes_text, IsAddress}
+use Rattle.dc_model.specs.Address.{address_text}
+use Rattle.dc_script.specs.Text.{bytes_text, IsAddress}
 use Rattle.dc_script.specs.EventText.{events_text, IsWritten}
 use Rattle.dc_script.specs.Heading.{zone_word}
 use Rattle.dc_script.specs.Head.{Head, rule_under}

@@ -1,11 +1,10 @@
 pub mod Text
-pub mod Put
 pub mod View
 pub mod Script
 pub mod Lines
 pub mod Read
 pub mod Written
-pub mod Fated
+pub use Rattle.dc_writer.specs.Fated
 pub mod Order
 pub mod World
 pub mod Heading

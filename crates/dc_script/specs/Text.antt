@@ -1,7 +1,8 @@
 -- The text of actions, a line each.
-use Rattle.std.specs.Prelude.{◌≡◌, ◌<◌, ◌^◌, ℕ, length, List, [], ◌∷◌, ◌++◌, map, flat_map, codes, decimal}
-use Rattle.std.specs.List.{join_with_byte, AllByRecursion}
+use Rattle.std.specs.Prelude.{◌≡◌, ◌<◌, ◌^◌, ℕ, length, List, [], ◌∷◌, ◌++◌, flat_map, codes, decimal}
+use Rattle.std.specs.List.{AllByRecursion}
 use Rattle.dc_model.specs.Event.{Action, reply, conn_reply, conn_close, udp, tcp, link_write, link_close, line}
+use Rattle.dc_model.specs.Address.{address_text}
 use Rattle.dc_model.specs.Line.{hex, words}
 use Rattle.dc_script.specs.Lines.{IsOneLine}
 
@@ -9,10 +10,6 @@ use Rattle.dc_script.specs.Lines.{IsOneLine}
 abbrev pub bytes_text : List ℕ → List ℕ
 bytes_text [] = codes "-"
 bytes_text (b ∷ bs) = hex (b ∷ bs)
-
--- An address as four numbers joined by dots.
-abbrev pub address_text : List ℕ → List ℕ
-address_text addr = join_with_byte 46 (map decimal addr)
 
 -- The words of an action. Numbers are decimal.
 abbrev pub action_words : Action → List (List ℕ)

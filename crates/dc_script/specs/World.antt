@@ -16,7 +16,7 @@ use Rattle.dc_script.specs.declared.lines.NextLine.TheVariants.{Found, TooLong, 
 use Rattle.dc_script.specs.Text.{action_text, text_of}
 use Rattle.dc_script.specs.Read.{ReadOff, ReadOff-none, ReadOff-both, says}
 use Rattle.dc_script.specs.Written.{Written, Written-none, written_whole, Done-both, text_of-one}
-use Rattle.dc_script.specs.Fated.{Fated, Fated-none, Fated-both}
+use Rattle.dc_writer.specs.Fated.{Fated, Fated-none, Fated-both}
 use Rattle.dc_script.specs.Order.{over_after, late, over-both, late-both, neither, late_by, over_by, and_false, over_done}
 
 -- A recorded world over a source and a sink: the source, the text taken from it that isn't handed out, how many lines were handed out,

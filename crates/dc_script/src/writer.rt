@@ -1,7 +1,7 @@
 //! A sink to which the text of actions is written until a write fails.
 ghost use Rattle.std.specs.Prelude.{◌≡◌, Bool, true, false};
 ghost use Rattle.dc_event.specs.Causes.{counted};
-ghost use Rattle.dc_script.specs.Fated.{Fated};
+ghost use Rattle.dc_writer.specs.Fated.{Fated};
 ghost use Rattle.dc_script.specs.Text.{action_text};
 ghost use Rattle.dc_script.specs.View.{action_of};
 ghost use Rattle.dc_script.specs.Written.{Written};

@@ -1,11 +1,10 @@
 -- Texts record by record.
-use Rattle.std.proofs.Common.{◌≡◌, ◌≢◌, ℕ, ◌+◌, ◌<◌, ◌≤◌, zero, suc, Bool, true, false, true≢false, ◌&&◌, ◌==◌, cond, List, [], ◌∷◌, ◌++◌, length, map, flat_map, take, drop, refl, sym, ap, ◌∙◌, subst, arith, append_assoc, Option, Some, None, option_map, option_and_then}
+use Rattle.std.proofs.Common.{◌≡◌, ◌≢◌, ℕ, ◌+◌, ◌<◌, ◌≤◌, zero, suc, Bool, true, false, ◌&&◌, ◌==◌, cond, List, [], ◌∷◌, ◌++◌, length, map, flat_map, take, refl, sym, ap, ◌∙◌, subst, arith, append_assoc, Option, Some, None, option_map, option_and_then}
 use Rattle.std.specs.Prelude.{slice_get, filter, filter_map, codes, decimal}
 use Rattle.std.specs.List.{AllByRecursion, cons_option}
 use Rattle.std.proofs.lemmas.List.{append-nil, take_all}
-use Rattle.std.proofs.lemmas.Grind.{flat_map-append}
 use Rattle.dc_model.specs.Name.{Name}
-use Rattle.dc_model.specs.Message.{kind_a, kind_mx, kind_ptr, kind_txt, Section, answer, authority, additional, Body, HasNames, Record, IsRecord, is_in, in_records, Message, message_of, message_with, message_behind, QuestionRead, question_of, records_at, u16_at}
+use Rattle.dc_model.specs.Message.{kind_a, kind_mx, kind_ptr, kind_txt, Section, answer, authority, additional, Body, HasNames, Record, IsRecord, is_in, Message, message_of, message_with, message_behind, QuestionRead, question_of, records_at, u16_at}
 use Rattle.dc_model.specs.Line.{words}
 use Rattle.dc_model.specs.Marks.{is_answer}
 use Rattle.dc_model.proofs.MessageLemmas.{bound, some_of, message_of-IsMessage}

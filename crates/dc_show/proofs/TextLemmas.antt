@@ -4,16 +4,8 @@ use Rattle.std.specs.Prelude.{decimal, codes, if◌then◌else◌}
 use Rattle.std.proofs.lemmas.List.{append-nil, drop_all}
 use Rattle.std.proofs.lemmas.Bool.Decides.{nat_tests}
 use Rattle.dc_model.specs.Message.{bytes, kind_a, class_in}
-use Rattle.dc_lookup.specs.Text.{address_text, address_datum, rcode_text, data_byte, data_text, strings}
-
-pub four_octets : (a : List ℕ) → length a ≡ 4 → address_text a
-    ≡ decimal (slice_index_or a 0 0) ++ (46 ∷ (decimal (slice_index_or a 1 0) ++ (46 ∷ (decimal (slice_index_or a 2 0) ++ (46 ∷ decimal (slice_index_or a 3 0))))))
-four_octets [] h = absurd (omega arith)
-four_octets (a ∷ []) h = absurd (omega arith)
-four_octets (a ∷ b ∷ []) h = absurd (omega arith)
-four_octets (a ∷ b ∷ c ∷ []) h = absurd (omega arith)
-four_octets (a ∷ b ∷ c ∷ d ∷ []) h = refl
-four_octets (a ∷ b ∷ c ∷ d ∷ e ∷ rest) h = absurd (omega arith)
+use Rattle.dc_model.specs.Address.{address_text}
+use Rattle.dc_lookup.specs.Text.{address_datum, rcode_text, data_byte, data_text, strings}
 
 datum_by : (b : Bool) (t : List ℕ) → b ≡ true → t ≡ (if b then t else [])
 datum_by true t h = refl

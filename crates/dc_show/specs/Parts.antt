@@ -1,6 +1,6 @@
 -- What each record adds to a text.
 use Rattle.std.specs.Prelude.{ℕ, Bool, ◌&&◌, ◌==◌, List, map, Option, None, if◌then◌else◌}
-use Rattle.dc_model.specs.Message.{kind_a, kind_mx, kind_ptr, kind_txt, Section, Record, class_in, is_in}
+use Rattle.dc_model.specs.Message.{kind_a, kind_mx, kind_ptr, kind_txt, Section, Record, class_in}
 use Rattle.dc_model.specs.Marks.{is_answer}
 use Rattle.dc_model.specs.Name.{Name}
 use Rattle.dc_lookup.specs.Text.{text_if, address_datum, host_in, strings_in, printed, mx_in}

@@ -10,7 +10,7 @@ ghost use Rattle.dc_show.specs.Lines.{line_of, counts_text};
 
 use crate::names::octal;
 use crate::parts::{CLASS_IN, KIND_A, Part, write_each};
-use crate::piece::{write_dot, write_octets, write_space_dot, write_space_number};
+use crate::piece::{write_dot, write_space_dot, write_space_number};
 use dc_event::{Put, Sink};
 use dc_name::Name;
 use dc_packet::{Data, Message, Rr, Section, Table, question_of, u16_at, u32_at};
@@ -141,7 +141,7 @@ fn write_bytes<K: Sink>(writer: &mut Writer, sink: &mut K, kind: u16, class: u16
 {
     if is_address(kind, class, bytes.len()) {
         writer.put(sink, b"A ");
-        write_octets(writer, sink, bytes);
+        writer.address(sink, bytes);
     } else {
         writer.number(sink, kind.into());
         writer.put(sink, b" ");

@@ -9,7 +9,7 @@ ghost use Rattle.dc_writer.specs.Written.{Wrote};
 ghost use Rattle.dc_lookup.specs.Text.{address_datum, strings_in, strings, printed, mx_in};
 ghost use Rattle.dc_show.specs.Parts.{is_wanted_by, ip_part, txt_part, mx_part};
 
-use crate::piece::{write_mx, write_octets};
+use crate::piece::write_mx;
 use dc_event::Sink;
 use dc_packet::{Data, Message, Rr, Section};
 use dc_writer::Writer;
@@ -78,7 +78,7 @@ fn write_if_address<K: Sink>(writer: &mut Writer, sink: &mut K, bytes: &[u8])
     ensures { Wrote K.gained K.faults writer.old sink.old (address_datum (model.bytes bytes.now)) writer.new sink.new }
 {
     if bytes.len() == 4 {
-        write_octets(writer, sink, bytes);
+        writer.address(sink, bytes);
         writer.put(sink, b" ");
     }
 }

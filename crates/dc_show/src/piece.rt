@@ -2,27 +2,14 @@
 ghost use Rattle.std.specs.Prelude.{◌≡◌, ℕ, ◌∷◌, ◌++◌, [], length, decimal};
 ghost use Rattle.dc_event.specs.Answers.{count_put};
 ghost use Rattle.dc_writer.specs.Written.{Wrote, PutWhole};
-ghost use Rattle.dc_lookup.specs.Text.{address_text, dot, line_end, mx_line};
+ghost use Rattle.dc_model.specs.Address.{address_text};
+ghost use Rattle.dc_lookup.specs.Text.{dot, line_end, mx_line};
 
 use crate::names::dot;
 use arrayvec::ArrayVec;
 use dc_event::{Put, Sink};
 use dc_name::Name;
 use dc_writer::Writer;
-
-/// Writes four bytes as an address: numbers joined by dots.
-pub(crate) fn write_octets<K: Sink>(writer: &mut Writer, sink: &mut K, bytes: &[u8])
-    requires { length bytes.now ≡ 4 }
-    ensures { Wrote K.gained K.faults writer.old sink.old (address_text bytes.now) writer.new sink.new }
-{
-    writer.number(sink, bytes[0].into());
-    writer.put(sink, b".");
-    writer.number(sink, bytes[1].into());
-    writer.put(sink, b".");
-    writer.number(sink, bytes[2].into());
-    writer.put(sink, b".");
-    writer.number(sink, bytes[3].into());
-}
 
 /// Writes a name in text.
 pub(crate) fn write_dot<K: Sink>(writer: &mut Writer, sink: &mut K, name: &Name)
@@ -64,7 +51,7 @@ pub fn show_address<K: Sink>(addr: [u8; 4], sink: &mut K) -> Put
     ensures count { K.faults sink.new ≡ count_put result (K.faults sink.old) }
 {
     let mut writer = Writer::new();
-    write_octets(&mut writer, sink, &addr);
+    writer.address(sink, &addr);
     writer.put(sink, b" \n");
     writer.finish(sink)
 }

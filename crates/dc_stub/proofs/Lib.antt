@@ -1,8 +1,7 @@
-mod Shuffled
 mod StubLemmas
 mod WordLemmas
 mod LookLemmas
 pub mod PassLemmas
-pub mod Filling
+pub mod Nameservers
 pub mod Blanks
 pub mod ServerLemmas

@@ -11,7 +11,8 @@ use Rattle.dc_event.specs.History.{Exchange, asked, ended, failed as broke, bad}
 use Rattle.dc_event.specs.Told.{BeginsWith, GainedFront}
 use Rattle.dc_event.specs.declared.answers.Put.{Put}
 use Rattle.dc_event.specs.declared.answers.Put.TheVariants as put
-use Rattle.dc_lookup.specs.Text.{line_end, address_text}
+use Rattle.dc_model.specs.Address.{address_text}
+use Rattle.dc_lookup.specs.Text.{line_end}
 use Rattle.dc_lookup.specs.Words.{Tool, shown_by}
 use Rattle.dc_lookup.specs.Asking.{unasked, is_over_by, ask_wake}
 use Rattle.dc_serve.specs.Serve.{each_passes}

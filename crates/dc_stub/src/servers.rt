@@ -1,14 +1,13 @@
 //! The servers that a tool asks.
-ghost use Rattle.std.specs.Prelude.{◌≡◌, ◌≢◌, ℕ, List, Some, None, Ok, Err, OnOk, OnErr, IfOk, take_while, codes, false};
+ghost use Rattle.std.specs.Prelude.{◌≡◌, ◌≢◌, ℕ, List, Some, None, Ok, Err, OnOk, OnErr, IfOk, codes, false};
 ghost use Rattle.dc_model.specs.Places.{places_of, all_empty};
-ghost use Rattle.dc_model.specs.Rules as model;
 ghost use Rattle.dc_event.specs.Causes.{counted};
 ghost use Rattle.dc_config.specs.Tree.{Tree};
 ghost use Rattle.dc_config.specs.Environment.{value_of};
 ghost use Rattle.dc_lookup.specs.Servers as tools;
-ghost use Rattle.dc_stub.specs.Lines.{is_address_byte};
 
 use dc_config::{Env, FileRead, Files};
+use dc_rules::{address_in, if_filled};
 use dc_text::{Parts, address};
 use std::alloc::Global;
 
@@ -19,40 +18,6 @@ pub enum StubError {
     FilesFault,
     /// There was no memory.
     NoMemory,
-}
-
-/// Whether a byte may stand in an address in text.
-fn is_address_byte(byte: u8) -> bool
-    ensures { result ≡ is_address_byte byte }
-{
-    byte.is_ascii_digit() || byte == b'.'
-}
-
-/// The digits and dots with which a line begins.
-fn address_text(line: &[u8]) -> &[u8]
-    ensures { result.now ≡ take_while is_address_byte line.now }
-{
-    for (end, byte) in line.iter().enumerate() {
-        if !is_address_byte(*byte) {
-            return &line[..end];
-        }
-    }
-    line
-}
-
-/// An address, unless it is 0.0.0.0.
-fn if_filled(found: [u8; 4]) -> Option<[u8; 4]>
-    ensures { result ≡ model.if_filled found }
-{
-    if found == [0; 4] { None } else { Some(found) }
-}
-
-/// The address with which a line begins, unless it is 0.0.0.0.
-fn address_in(line: &[u8]) -> Option<[u8; 4]>
-    ensures { result ≡ model.address_in line.now }
-{
-    let found = address(address_text(line))?;
-    if_filled(found)
 }
 
 /// A space or a tab.

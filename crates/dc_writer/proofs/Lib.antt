@@ -1,1 +1,3 @@
 pub mod Writing
+pub mod Faring
+pub mod Texts

@@ -1,7 +1,11 @@
 //! A writer: it gathers pieces of text, and puts them into a sink.
-ghost use Rattle.std.specs.Prelude.{◌≡◌, ℕ, ◌+◌, ◌-◌, ◌^◌, ◌≤◌, [], ◌++◌, min, length, decimal, true, false};
+ghost use Rattle.std.specs.Prelude.{◌≡◌, ℕ, ◌+◌, ◌-◌, ◌^◌, ◌≤◌, [], ◌++◌, min, length, decimal, true, false, not};
+ghost use Rattle.dc_event.specs.Answers.{well_put};
+ghost use Rattle.dc_model.specs.Address.{address_text};
+ghost use Rattle.dc_writer.specs.Fated.{Fated};
 ghost use Rattle.dc_writer.specs.Written.{Written, unwritten, counted, Passes, Wrote, Flushes};
 
+use crate::words::{Words, push_address};
 use arrayvec::ArrayVec;
 use dc_event::{Put, Sink, put_all};
 use itoa::Buffer as Digits;
@@ -43,6 +47,7 @@ impl Writer {
     /// Writes bytes as they are.
     pub fn put<K: Sink>(&mut self, sink: &mut K, bytes: &[u8])
         ensures wrote { Wrote K.gained K.faults self.old sink.old bytes.now self.new sink.new }
+        ensures fared { Fated K.gained K.refused K.faults self.old.failed self.new.failed sink.old sink.new }
     {
         self.count = self.count.saturating_add(bytes.len());
         if !self.failed {
@@ -53,14 +58,27 @@ impl Writer {
     /// Writes a number in decimal.
     pub fn number<K: Sink>(&mut self, sink: &mut K, number: u64)
         ensures wrote { Wrote K.gained K.faults self.old sink.old (decimal number) self.new sink.new }
+        ensures fared { Fated K.gained K.refused K.faults self.old.failed self.new.failed sink.old sink.new }
     {
         let mut digits = Digits::new();
         self.put(sink, digits.format(number).as_bytes());
     }
 
+    /// Writes four bytes as an address: numbers joined by dots.
+    pub fn address<K: Sink>(&mut self, sink: &mut K, addr: &[u8])
+        requires { length addr.now ≡ 4 }
+        ensures wrote { Wrote K.gained K.faults self.old sink.old (address_text addr.now) self.new sink.new }
+        ensures fared { Fated K.gained K.refused K.faults self.old.failed self.new.failed sink.old sink.new }
+    {
+        let mut text = Words::new();
+        push_address(&mut text, [addr[0], addr[1], addr[2], addr[3]]);
+        self.put(sink, text.as_slice());
+    }
+
     /// Puts all that is held, and answers how many bytes were written.
     pub fn finish<K: Sink>(&mut self, sink: &mut K) -> Put
         ensures flushed { Flushes K.gained K.faults self.old.failed result self.old.count sink.old self.old.held sink.new }
+        ensures fared { Fated K.gained K.refused K.faults self.old.failed (not (well_put result)) sink.old sink.new }
     {
         if self.failed {
             return Put::Failed;
@@ -84,6 +102,7 @@ impl Writer {
     fn gather<K: Sink>(&mut self, sink: &mut K, bytes: &[u8])
         requires well { self.old.failed ≡ false }
         ensures passed { Passes K.gained K.faults false self.new.failed sink.old self.old.held bytes.now sink.new self.new.held }
+        ensures fared { Fated K.gained K.refused K.faults false self.new.failed sink.old sink.new }
         ensures count { self.new.count ≡ self.old.count }
     {
         if bytes.len() <= self.bytes.remaining_capacity() {
@@ -101,6 +120,7 @@ impl Writer {
         requires well { self.old.failed ≡ false }
         requires empty { self.old.held ≡ [] }
         ensures passed { Passes K.gained K.faults false self.new.failed sink.old [] bytes.now sink.new self.new.held }
+        ensures fared { Fated K.gained K.refused K.faults false self.new.failed sink.old sink.new }
         ensures count { self.new.count ≡ self.old.count }
     {
         if bytes.len() <= ROOM {
@@ -125,6 +145,7 @@ impl Writer {
         requires well { self.old.failed ≡ false }
         requires empty { self.old.held ≡ [] }
         ensures passed { Passes K.gained K.faults false self.new.failed sink.old [] bytes.now sink.new [] }
+        ensures fared { Fated K.gained K.refused K.faults false self.new.failed sink.old sink.new }
         ensures empty { self.new.held ≡ [] }
         ensures count { self.new.count ≡ self.old.count }
     {
@@ -138,6 +159,7 @@ impl Writer {
     fn flush<K: Sink>(&mut self, sink: &mut K)
         requires well { self.old.failed ≡ false }
         ensures passed { Passes K.gained K.faults false self.new.failed sink.old [] self.old.held sink.new [] }
+        ensures fared { Fated K.gained K.refused K.faults false self.new.failed sink.old sink.new }
         ensures empty { self.new.held ≡ [] }
         ensures count { self.new.count ≡ self.old.count }
     {

@@ -9,7 +9,7 @@ use Rattle.dc_transmit.specs.Attempts.{occasion}
 use Rattle.dc_transmit.specs.Standing.{standing_at}
 use Rattle.dc_machine.specs.Turn.{at_next, ask_row, attempt_of, waits}
 use Rattle.dc_desk.specs.View.{setting_at, at, setting_of}
-use Rattle.dc_resolve.proofs.PlaceLemmas.{still_placed, places_long}
+use Rattle.dc_model.proofs.ShuffleLemmas.{still_placed, places_long}
 use Rattle.dc_resolve.proofs.TurnLemmas.{step_as}
 use Rattle.dc_resolve.proofs.NextLemmas.{next_fails, next_asks, asks_same, started_same, line_same}
 use Rattle.dc_resolve.proofs.next.ask.Goals as goal

@@ -1,47 +1,28 @@
-use Rattle.std.proofs.Common.{refl, ◌∙◌, arith, ◌+◌, take, drop, ◌≤◌, length, sym, true, false}
-use Rattle.std.proofs.lemmas.List.{append-nil}
+use Rattle.std.proofs.Common.{◌≤◌, length, arith, ap}
 use Rattle.dc_model.specs.Line.{hex}
-use Rattle.dc_script.proofs.Hex.{hex-append}
-use Rattle.dc_script.proofs.Passing.{passed_kept, passed_both, passed_early, piece_more, take_whole, front_and_rest}
-use Rattle.dc_event.specs.Causes.{failed_behind}
+use Rattle.dc_writer.specs.Fated.{Fated-none}
+use Rattle.dc_writer.proofs.Faring.{fared_both}
+use Rattle.dc_writer.proofs.Writing.{wrote_as, wrote_both, wrote_none}
+use Rattle.dc_script.proofs.Hex.{hex_more, take_whole}
 use Rattle.dc_script.proofs.write.write_hex.Goals as goal
 
 pub loop-at-init : goal.loop-at-init
 loop-at-init g c = record {
-  passed = passed_kept g.K.Sink.gained g.met.K.Sink.gained_none g.met.K.Sink.gained_both c.args.sink.now c.args.text.now.items _ _ (sym (append-nil c.args.text.now.items));
+  wrote = wrote_none _ _ g.met.K.Sink.gained_both g.met.K.Sink.gained_none _ _;
+  fared = Fated-none g.K.Sink.gained g.K.Sink.refused g.K.Sink.faults _ _;
   within = omega arith;
-  stays = refl;
 }
 
 pub loop-at-preserved : goal.loop-at-preserved
 loop-at-preserved g c =
-    let h = c.write_digits.ensures.put in
-    let whole = rw c.if-not-write_digits.false at h in
-    let f = c.write_digits.ensures.fares in
-    let fared = rw c.if-not-write_digits.false at f in
+    let b = g.met.K.Sink.gained_both in
     record {
-      passed = rw (← piece_more c.args.bytes.now c.loop-at.at c.min-count.result, hex-append) (passed_both g.K.Sink.gained g.met.K.Sink.gained_none g.met.K.Sink.gained_both true _ _ _ c.args.text.now.items (hex (take c.loop-at.at c.args.bytes.now)) _ _ _ c.loop-at.invariant.passed whole);
+      wrote = wrote_as _ _ b (hex_more c.args.bytes.now c.loop-at.at c.min-count.result) (wrote_both _ _ b c.loop-at.invariant.wrote c.write_digits.ensures.wrote);
+      fared = fared_both _ _ _ b _ _ c.loop-at.invariant.wrote c.loop-at.invariant.fared c.write_digits.ensures.fared;
       within = omega arith;
-      stays = fared ∙ c.loop-at.invariant.stays;
     }
 
-pub returns-then-not-write_digits-clause-put : goal.returns-then-not-write_digits-clause-put
-returns-then-not-write_digits-clause-put g c =
-    let h = c.write_digits.ensures.put in
-    let failed = rw c.if-not-write_digits.true at h in
-    let front = passed_both g.K.Sink.gained g.met.K.Sink.gained_none g.met.K.Sink.gained_both false _ _ _ c.args.text.now.items (hex (take c.loop-at.at c.args.bytes.now)) c.loop-at.text.items _ c.write_digits.new.text.items c.loop-at.invariant.passed failed in
-    let more = passed_early g.K.Sink.gained g.met.K.Sink.gained_none g.met.K.Sink.gained_both _ _ c.args.text.now.items _ c.write_digits.new.text.items (hex (drop (c.loop-at.at + c.min-count.result) c.args.bytes.now)) c.write_digits.new.text.items front in
-    rw (← hex-append, piece_more, ← hex-append, front_and_rest) at more
-
-pub returns-clause-put : goal.returns-clause-put
-returns-clause-put g c =
+pub returns-clause-wrote : goal.returns-clause-wrote
+returns-clause-wrote g c =
     let h : length c.args.bytes.now ≤ c.loop-at.at = omega arith in
-    let passed = c.loop-at.invariant.passed in
-    rw (take_whole c.args.bytes.now c.loop-at.at h) at passed
-
-pub returns-then-not-write_digits-clause-fares : goal.returns-then-not-write_digits-clause-fares
-returns-then-not-write_digits-clause-fares g c =
-    let f = c.write_digits.ensures.fares in
-    let failed = rw c.if-not-write_digits.true at f in
-    let passed = c.loop-at.invariant.passed in
-    failed_behind g.K.Sink.gained g.met.K.Sink.gained_both g.K.Sink.refused g.K.Sink.faults _ _ _ passed.0 passed.1 c.loop-at.invariant.stays failed
+    wrote_as _ _ g.met.K.Sink.gained_both (ap hex (take_whole c.args.bytes.now c.loop-at.at h)) c.loop-at.invariant.wrote

@@ -1,4 +1,4 @@
-use Rattle.std.proofs.Common.{◌≡◌, ℕ, ◌+◌, ◌≤◌, [], ◌∷◌, List, length, refl, sym, ap, ◌∙◌, arith, slice_index_or}
+use Rattle.std.proofs.Common.{◌≡◌, ℕ, ◌+◌, ◌≤◌, [], ◌∷◌, List, length, refl, sym, ap, ◌∙◌, arith}
 use Rattle.arrayvec.specs.ArrayVec.{array_vec_len}
 use Rattle.dc_model.specs.Name.{Name, wire}
 use Rattle.dc_show.proofs.DotLemmas.{dot_root, dot_first, wire_more}

@@ -1,4 +1,4 @@
-use Rattle.std.proofs.Common.{◌≡◌, ◌+◌, ◌*◌, ◌≤◌, ◌++◌, length, take, flat_map}
+use Rattle.std.proofs.Common.{◌≡◌, ◌+◌, ◌*◌, ◌≤◌, ◌++◌, take, flat_map}
 use Rattle.std.specs.Str.{str_to_ascii_lowercase}
 use Rattle.arrayvec.specs.ArrayVec.{array_vec_len}
 use Rattle.dc_lookup.specs.Text.{dot_byte}

@@ -1,4 +1,4 @@
-use Rattle.std.proofs.Common.{◌≡◌, sym, ◌∙◌}
+use Rattle.std.proofs.Common.{sym, ◌∙◌}
 use Rattle.dc_writer.proofs.Writing.{wrote_both, wrote_as}
 use Rattle.dc_show.proofs.TextLemmas.{quad_is, opaque_is}
 use Rattle.dc_show.proofs.packet.write_bytes.Goals as goal
@@ -6,7 +6,7 @@ use Rattle.dc_show.proofs.packet.write_bytes.Goals as goal
 pub returns-then-is_address : goal.returns-then-is_address
 returns-then-is_address g c =
     let b = g.met.K.Sink.gained_both in
-    wrote_as _ _ b (quad_is c.args.kind c.args.class c.args.bytes.now (sym c.is_address.ensures.so ∙ c.if-is_address.true)) (wrote_both _ _ b c.put.ensures.wrote c.write_octets.ensures)
+    wrote_as _ _ b (quad_is c.args.kind c.args.class c.args.bytes.now (sym c.is_address.ensures.so ∙ c.if-is_address.true)) (wrote_both _ _ b c.put.ensures.wrote c.address.ensures.wrote)
 
 pub returns-else-is_address : goal.returns-else-is_address
 returns-else-is_address g c =

@@ -1,4 +1,4 @@
-use Rattle.std.proofs.Common.{◌≡◌, ℕ, ◌<◌, length, arith}
+use Rattle.std.proofs.Common.{arith}
 use Rattle.dc_lookup.specs.Text.{data_byte}
 use Rattle.dc_writer.proofs.Writing.{wrote_both, wrote_none, wrote_as}
 use Rattle.dc_show.proofs.TextLemmas.{bytes_more}

@@ -1,4 +1,4 @@
-use Rattle.std.proofs.Common.{◌≡◌, ◌≤◌, length, arith, sym}
+use Rattle.std.proofs.Common.{arith}
 use Rattle.dc_writer.proofs.Writing.{wrote_both, wrote_none, wrote_as}
 use Rattle.dc_show.proofs.PartLemmas.{is_there, each_more, each_whole}
 use Rattle.dc_show.proofs.parts.write_each.Goals as goal

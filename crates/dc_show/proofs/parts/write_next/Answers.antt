@@ -1,6 +1,6 @@
-use Rattle.std.proofs.Common.{◌≡◌, ℕ, ◌-◌, suc, arith, [], ◌∷◌}
+use Rattle.std.proofs.Common.{◌≡◌, ◌-◌, suc, arith, [], ◌∷◌}
 use Rattle.dc_lookup.specs.Text.{printed}
-use Rattle.dc_writer.proofs.Writing.{wrote_none, wrote_as}
+use Rattle.dc_writer.proofs.Writing.{wrote_none}
 use Rattle.dc_show.proofs.TextLemmas.{next_length, next_byte}
 use Rattle.dc_show.proofs.parts.write_next.Goals as goal
 

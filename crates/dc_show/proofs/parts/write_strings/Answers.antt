@@ -1,4 +1,4 @@
-use Rattle.std.proofs.Common.{◌≡◌, [], ◌++◌, arith, map, refl}
+use Rattle.std.proofs.Common.{[], ◌++◌, arith, map, refl}
 use Rattle.dc_lookup.specs.Text.{printed, strings}
 use Rattle.dc_writer.proofs.Writing.{wrote_both, wrote_none, wrote_as}
 use Rattle.dc_show.proofs.TextLemmas.{next_more, all_done}

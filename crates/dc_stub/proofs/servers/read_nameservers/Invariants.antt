@@ -1,9 +1,10 @@
 use Rattle.std.proofs.Common.{length}
-use Rattle.dc_stub.proofs.Filling.{IsSoFar}
+use Rattle.dc_lookup.specs.Servers.{nameserver_in}
+use Rattle.dc_rules.proofs.Filling.{IsSoFar}
 use Rattle.dc_stub.proofs.servers.read_nameservers.Given as goal
 
 abbrev pub invariant-loop-line : goal.invariant-loop-line
-invariant-loop-line l = IsSoFar l.text l.places l.filled l.lines
+invariant-loop-line l = IsSoFar nameserver_in l.text l.places l.filled l.lines
 
 abbrev pub decreases-loop-line : goal.decreases-loop-line
 decreases-loop-line l = length l.lines

@@ -1,6 +1,6 @@
 use Rattle.std.proofs.Common.{◌≡◌, length, arith, append_assoc}
-use Rattle.dc_script.proofs.Texts.{four_octets}
-use Rattle.dc_script.proofs.text.push_address.Goals as goal
+use Rattle.dc_writer.proofs.Texts.{four_octets}
+use Rattle.dc_writer.proofs.words.push_address.Goals as goal
 
 pub returns-clause-items : goal.returns-clause-items
 returns-clause-items c =

@@ -1,0 +1,21 @@
+use Rattle.std.proofs.Common.{sym}
+use Rattle.dc_writer.proofs.Faring.{fared_both, whole_fares}
+use Rattle.dc_writer.proofs.Writing.{wrote_as, wrote_both, whole}
+use Rattle.dc_script.proofs.write.write_action.Goals as goal
+
+pub returns-clause-put : goal.returns-clause-put
+returns-clause-put g c =
+    let b = g.met.K.Sink.gained_both in
+    let words = rw c.as_slice.ensures.value at c.put.ensures.wrote in
+    let line = wrote_both _ _ b (wrote_both _ _ b words c.write_rest.ensures.wrote) c.put-2.ensures.wrote in
+    (whole _ _ b c.new-writer.result c.finish.result c.new-writer.ensures (wrote_as _ _ b (sym c.push_words-rest.ensures) line) c.finish.ensures.flushed).0
+
+pub returns-clause-fares : goal.returns-clause-fares
+returns-clause-fares g c =
+    let b = g.met.K.Sink.gained_both in
+    let words = c.put.ensures.wrote in
+    let rest = wrote_both _ _ b words c.write_rest.ensures.wrote in
+    let line = wrote_both _ _ b rest c.put-2.ensures.wrote in
+    let rest_fared = fared_both _ _ _ b _ _ words c.put.ensures.fared c.write_rest.ensures.fared in
+    let line_fared = fared_both _ _ _ b _ _ rest rest_fared c.put-2.ensures.fared in
+    whole_fares _ _ _ b c.new-writer.result c.finish.result _ _ c.new-writer.ensures (fared_both _ _ _ b _ _ line line_fared c.finish.ensures.fared)
