@@ -64,6 +64,19 @@ status 100 dnsip $'\xff\xfe'
 is "what is said of bad words" "dnsip: fatal: bad arguments" "$(mine dnsip a..b)"
 is "no server" "dnsip: fatal: no answer" "$(env -i DNSCACHEIP=127.53.1.99 "$tools/dnsip" www.test 2>&1)"
 
+# A resolv.conf with comments and tabs, of which the first server is dead, in a mount namespace of its own.
+if unshare -m true 2>/dev/null; then
+  printf '# the servers\n; of this trial\nsearch test\nnameserver\t127.53.1.98\nnameserver 127.53.1.53 # alive\noptions ndots:1\n' > "$room/resolv.conf"
+  by_file() { unshare -m sh -c 'mount --bind "$0" /etc/resolv.conf && exec env -i "$@" 2>&1' "$room/resolv.conf" "$tools/$1" "${@:2}"; }
+  is "by resolv.conf, whose first server is dead" "$(mine dnsip www.test | sorted)" "$(by_file dnsip www.test | sorted)"
+fi
+
+# The greatest memory of a tool, in kilobytes.
+if command -v /usr/bin/time >/dev/null; then
+  most=$(env DNSCACHEIP=127.53.1.53 /usr/bin/time -f %M "$tools/dnsip" www.test 2>&1 >/dev/null | tail -n 1)
+  if [ "$most" -le 8192 ]; then echo "ok: dnsip takes $most KB"; else echo "FAILED: dnsip takes $most KB"; failed=1; fi
+fi
+
 if command -v hyperfine >/dev/null; then
   hyperfine -N -w 5 -r 100 --export-csv "$room/times" "env DNSCACHEIP=127.53.1.53 $tools/dnsip www.test" "env DNSCACHEIP=127.53.1.53 dnsip www.test" >/dev/null 2>&1
   awk -F, 'NR == 2 { ours = $2 } NR == 3 { printf "dnsip of a cached name, ratio to Debian'"'"'s: %.2f\n", ours / $2 }' "$room/times"
