@@ -1,0 +1,4 @@
+//! Images of caches.
+#![tactic(auto)]
+
+pub mod laws;
