@@ -1,2 +1,4 @@
 pub mod Image
 pub mod Gathered
+pub mod Fronts
+pub mod Loaded
