@@ -13,4 +13,4 @@ mod show;
 pub use names::dot;
 pub use packet::show_packet;
 pub use piece::show_address;
-pub use show::{show_ip, show_mx, show_name, show_txt};
+pub use show::{host_of, show_ip, show_mx, show_name, show_txt};

@@ -4,6 +4,7 @@ ghost use Rattle.dc_model.specs.Message as model;
 ghost use Rattle.dc_event.specs.Answers.{count_put};
 ghost use Rattle.dc_packet.specs.Rows.{AreRowsOf};
 ghost use Rattle.dc_writer.specs.Written.{Wrote, PutWhole};
+ghost use Rattle.dc_lookup.specs.Text as model_text;
 ghost use Rattle.dc_lookup.specs.Text.{ip_text, host_text, name_text, txt_text, mx_text};
 ghost use Rattle.std.specs.List.{AllByRecursion};
 
@@ -34,6 +35,16 @@ pub fn show_ip<K: Sink>(
     write_each::<Addresses, K>(&mut writer, sink, &message);
     writer.put(sink, b"\n");
     writer.finish(sink)
+}
+
+/// The first name that a packet answers. `None` exactly where it answers none.
+pub fn host_of(packet: &[u8], table: &Table) -> Option<Name>
+    requires packet { length packet.now ≤ 65535 }
+    requires table { AreRowsOf packet.now table.now }
+    ensures { (m : model.Message) → model.message_of packet.now ≡ Some m → result ≡ model_text.first_host m }
+{
+    let message = Message::new(packet, table);
+    first_host(&message)
 }
 
 /// Writes a name, or nothing.

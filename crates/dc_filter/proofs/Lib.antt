@@ -1,0 +1,5 @@
+pub mod PlaceLemmas
+mod QueueLemmas
+mod HearLemmas
+mod EngineLemmas
+pub mod Serving
