@@ -16,3 +16,4 @@ pub mod HeadTextLemmas
 pub mod LineBack
 pub mod HeadBack
 pub mod ScriptBack
+pub mod FaultyLemmas

@@ -7,6 +7,7 @@ pub mod Written
 pub use Rattle.dc_writer.specs.Fated
 pub mod Order
 pub mod World
+pub mod Faulty
 pub mod Heading
 pub mod Head
 pub mod Heads

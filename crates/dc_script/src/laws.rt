@@ -1,11 +1,12 @@
 //! Laws: what a recorded world tells, that scripts read back, and what may move to another thread.
-ghost use Rattle.std.specs.Prelude.{◌≡◌, ℕ, ◌+◌, List, [], ◌∷◌, Some, None, false};
+ghost use Rattle.std.specs.Prelude.{◌≡◌, ℕ, ◌+◌, List, [], ◌∷◌, take, Some, None, false};
 ghost use Rattle.std.specs.List.{AllByRecursion};
 ghost use Rattle.dc_model.specs.Event.{Event};
 ghost use Rattle.dc_model.specs.Rules.{Permits, Zones};
-ghost use Rattle.dc_event.specs.History.{Exchange, events_in, actions_in};
+ghost use Rattle.dc_event.specs.History.{Exchange, events_in, actions_in, wakes_in};
 ghost use Rattle.dc_event.specs.Told.{Tells};
 ghost use Rattle.dc_script.specs.EventText.{IsWritten, event_text, events_text};
+ghost use Rattle.dc_script.specs.Faulty.{HaveFailed, reached, wakes_kept};
 ghost use Rattle.dc_script.specs.Head.{Head, behind, head_of, script_said};
 ghost use Rattle.dc_script.specs.HeadText.{BeginsWithHead, IsScriptText, HeadTold, IsTold, first_told, first_zones, head_text, head_told, lines_of_head};
 ghost use Rattle.dc_script.specs.Read.{says};
@@ -71,6 +72,17 @@ pub fn world_tells_done<S: Source, K: Sink>()
     ensures { (old new : Recorded S K) → Tells K.gained old.sink new.sink → new.write_failed ≡ false
         → (g h : List Exchange) → AreOneActions (actions_in g) → AreOneActions (actions_in h)
         → ⟦<ScriptWorld<S, K> as World>⟧.history old g new → ⟦<ScriptWorld<S, K> as World>⟧.history old h new → actions_in g ≡ actions_in h }
+{}
+
+/// Where calls of given numbers fail, those that reach the recorded world give the same events and do the same actions as all of them.
+pub fn failed_calls_hide_nothing()
+    ensures events { (fails : List ℕ) (calls : ℕ) (h : List Exchange) → HaveFailed fails calls h → events_in (reached fails calls h) ≡ events_in h }
+    ensures actions { (fails : List ℕ) (calls : ℕ) (h : List Exchange) → HaveFailed fails calls h → actions_in (reached fails calls h) ≡ actions_in h }
+{}
+
+/// The wakes that are kept of a history are its first 64.
+pub fn first_wakes_are_kept()
+    ensures { (h : List Exchange) → wakes_kept [] h ≡ take 64 (wakes_in h) }
 {}
 
 fn movable<T: Send>(value: T) -> T

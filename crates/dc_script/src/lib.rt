@@ -4,6 +4,7 @@
 pub mod action;
 mod digits;
 pub mod events;
+mod fault_world;
 pub mod head;
 #[cfg(test)]
 mod head_tests;
@@ -22,6 +23,7 @@ mod writer;
 pub use action::Action;
 pub use digits::{decode, digits_of};
 pub use events::{EventLine, event_line};
+pub use fault_world::FaultWorld;
 pub use head::{Script, ScriptError, read_head};
 pub use lines::{LineRest, NextLine};
 pub use reader::EventBuffer;
