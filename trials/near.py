@@ -39,8 +39,13 @@ def serve(address, delay):
     threading.Thread(target=run, daemon=True).start()
 
 
-def start(program, address, send_from, root, descriptors=None):
-    """The program in a folder of its own, with so many descriptors at most."""
+def settings(address, send_from):
+    """The environment of the program."""
+    return {"PATH": os.environ["PATH"], "IP": address, "IPSEND": send_from, "CACHESIZE": "1000000"}
+
+
+def folder(root):
+    """A folder as the program reads it: clients of 127, this server of the root, and a seed."""
     if os.geteuid() != 0:
         print("skipped: port 53 needs root")
         sys.exit(0)
@@ -52,17 +57,28 @@ def start(program, address, send_from, root, descriptors=None):
         servers.write(root + "\n")
     with open(room + "/seed", "wb") as seed:
         seed.write(os.urandom(128))
-    limit = f"ulimit -n {descriptors}; " if descriptors else ""
-    settings = {"PATH": os.environ["PATH"], "IP": address, "IPSEND": send_from, "CACHESIZE": "1000000"}
-    process = subprocess.Popen(["bash", "-c", limit + 'exec "$0" < seed 2> log', os.path.realpath(program)], cwd=room, env=settings)
+    return room
+
+
+def stands(address):
+    """Waits until connections to this address are taken."""
     for _ in range(50):
         try:
             socket.create_connection((address, 53), 1).close()
-            return process
+            return
         except OSError:
             time.sleep(0.1)
     print("no connection to", address)
     sys.exit(1)
+
+
+def start(program, address, send_from, root, descriptors=None):
+    """The program in a folder of its own, with so many descriptors at most."""
+    room = folder(root)
+    limit = f"ulimit -n {descriptors}; " if descriptors else ""
+    process = subprocess.Popen(["bash", "-c", limit + 'exec "$0" < seed 2> log', os.path.realpath(program)], cwd=room, env=settings(address, send_from))
+    stands(address)
+    return process
 
 
 def whole(stream):

@@ -1,29 +1,56 @@
--- Why nothing was served.
-use Rattle.std.proofs.Common.{◌≡◌, ◌≤◌, ℕ, List, length, Result, Ok, Err, arith}
-use Rattle.std.specs.declared.option.Option.{Option}
-use Rattle.std.specs.Io.KnownBytes.{IsAtEnd}
-use Rattle.dc_rules.specs.declared.config.Config.{Config}
-use Rattle.dc_config.specs.declared.error.ConfigError.{ConfigError}
-use Rattle.dc_commands.specs.declared.status.Status.{Status}
-use Rattle.dc_commands.specs.declared.status.Status.TheVariants.{Done, Spent, Usage, BadVariable, NoRoot, BadZone, BadPermit, FilesFault, SeedShort, ReadFault, WriteFault, BadScript, WorldFault, NoMemory}
-use Rattle.dc_commands.specs.Serving.{Refused, FitsConf, IsFault}
+-- Why a replay isn't done.
+use Rattle.std.proofs.Common.{◌≡◌, ◌<◌, ◌≤◌, ◌⊎◌, inl, inr, ℕ, ◌+◌, Bool, true, false, cond, leb, List, length, refl, sym, ap, ◌∙◌, subst, Option, Some, None}
+use Rattle.std.proofs.lemmas.Bool.{lt-leb}
+use Rattle.dc_model.specs.Event.{Event, Action}
+use Rattle.dc_script.specs.Head.{Head, HeadRead, behind, other, head_of, ScriptSaid, said_behind}
+use Rattle.dc_script.specs.Script.{Said, said_from}
+use Rattle.dc_script.specs.Read.{line_event}
+use Rattle.dc_play.specs.Playing as playing
+use Rattle.dc_play.specs.Playing.{outcome_of}
+use Rattle.dc_play.specs.declared.played.Played.TheVariants as played
+use Rattle.dc_status.specs.declared.status.Status.{Status}
+use Rattle.dc_status.specs.declared.status.Status.TheVariants.{Done, Spent, Usage, BadVariable, NoRoot, BadZone, BadPermit, FilesFault, SeedShort, ReadFault, WriteFault, BadScript, BadImage, Unequal, WorldFault, NoMemory}
+use Rattle.dc_status.specs.Played.{status_of}
+use Rattle.dc_status.specs.Faults.{fault_of, source_well, sink_well}
+use Rattle.dc_serving.specs.Runs.{machine_run}
+use Rattle.dc_commands.specs.Replay.{Outcome, Keeps, outcome, with_status}
 
-not_refused : (conf : Result Config ConfigError) (c : Config) (why : ConfigError) → conf ≡ Ok c → conf ≡ Err why → ⊥
-not_refused conf c why e f = cc
+-- A list that is shorter than the limit is played to its end.
+ends : (run : List Event → List Action) (limit : ℕ) (said : Said) → length said.events < limit → said.bad ≡ None → (outcome_of run limit said).answer ≡ played.Done
+unfolding outcome_of
+ends run limit said few e =
+    let short : leb limit (length said.events) ≡ false = lt-leb limit (length said.events) few in
+    rw short (ap playing.at_end e)
 
-pub only_faults : (status : Status) (conf : Result Config ConfigError) (c : Config) (taken : List ℕ) (left : Option (List ℕ)) → conf ≡ Ok c → (IsAtEnd left → 32 ≤ length taken)
-    → FitsConf status conf → Refused status taken left → IsFault status
-only_faults FilesFault conf c taken left e s f r = tt
-only_faults ReadFault conf c taken left e s f r = tt
-only_faults WorldFault conf c taken left e s f r = tt
-only_faults NoMemory conf c taken left e s f r = tt
-only_faults (BadVariable v) conf c taken left e s f r = not_refused conf c _ e f
-only_faults NoRoot conf c taken left e s f r = not_refused conf c _ e f
-only_faults (BadZone g) conf c taken left e s f r = not_refused conf c _ e f
-only_faults (BadPermit g) conf c taken left e s f r = not_refused conf c _ e f
-only_faults SeedShort conf c taken left e s f r = let whole = s r.1 in omega (arith, whole, r.0)
-only_faults Done conf c taken left e s f r = r
-only_faults Spent conf c taken left e s f r = r
-only_faults Usage conf c taken left e s f r = r
-only_faults WriteFault conf c taken left e s f r = r
-only_faults (BadScript k) conf c taken left e s f r = r
+abbrev none_said : Option Head
+none_said = None
+
+pub whole_done : (read : HeadRead) (h : Head) (events : List Event) (limit : ℕ) → said_behind read ≡ record { head = Some h; said = record { events = events; bad = None } }
+    → length events < limit → (outcome limit read).status ≡ Done
+unfolding outcome
+whole_done (other k) h events limit e few =
+    let never : none_said ≡ Some h = ap {A = ScriptSaid} (λ s. s.head) e in cc
+whole_done (behind g k pieces) h events limit e few =
+    let said : said_from line_event (k + 1) pieces ≡ record { events = events; bad = None } = ap {A = ScriptSaid} (λ s. s.said) e in
+    let some : length (said_from line_event (k + 1) pieces).events < limit = subst (λ (s : Said). length s.events < limit) (sym said) few in
+    let none : (said_from line_event (k + 1) pieces).bad ≡ None = ap {A = Said} (λ s. s.bad) said in
+    ap status_of (ends (machine_run g.config g.seed) limit (said_from line_event (k + 1) pieces) some none)
+
+pub only_faults : (promised : Outcome) (whole text : List ℕ) (status : Status) → promised.status ≡ Done → Keeps promised whole text status
+    → source_well (fault_of status) ≡ true → sink_well (fault_of status) ≡ true → (status ≡ Done) ⊎ (status ≡ NoMemory)
+only_faults promised whole text Done e k r w = inl refl
+only_faults promised whole text Spent e k r w = let other : Spent ≡ Done = sym k.0 ∙ e in cc
+only_faults promised whole text (BadScript n) e k r w = let other : BadScript n ≡ Done = sym k.0 ∙ e in cc
+only_faults promised whole text ReadFault e k r w = cc
+only_faults promised whole text WriteFault e k r w = cc
+only_faults promised whole text NoMemory e k r w = inr refl
+only_faults promised whole text Usage e k r w = absurd k
+only_faults promised whole text BadImage e k r w = absurd k
+only_faults promised whole text Unequal e k r w = absurd k
+only_faults promised whole text (BadVariable v) e k r w = absurd k
+only_faults promised whole text NoRoot e k r w = absurd k
+only_faults promised whole text (BadZone f) e k r w = absurd k
+only_faults promised whole text (BadPermit f) e k r w = absurd k
+only_faults promised whole text FilesFault e k r w = absurd k
+only_faults promised whole text SeedShort e k r w = absurd k
+only_faults promised whole text WorldFault e k r w = absurd k

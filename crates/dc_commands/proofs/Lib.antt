@@ -1,7 +1,4 @@
-pub mod FareLemmas
-pub mod MachineRuns
-pub mod Promised
-pub mod SeedLemmas
-pub mod ServingLemmas
 pub mod Complete
+pub mod FareLemmas
+pub mod Promised
 pub mod Trusted

@@ -10,9 +10,11 @@ use Rattle.dc_play.specs.Playing.{outcome_of}
 use Rattle.dc_play.specs.declared.played.Played.{Played}
 use Rattle.dc_play.specs.declared.played.Played.TheVariants as played
 use Rattle.dc_play.proofs.Promises.{outcome_same}
-use Rattle.dc_commands.specs.declared.status.Status.{Status}
-use Rattle.dc_commands.specs.declared.status.Status.TheVariants.{BadScript}
-use Rattle.dc_commands.specs.Replay.{machine_run, Outcome, outcome, whole_text, with_status, status_of, Keeps}
+use Rattle.dc_status.specs.declared.status.Status.{Status}
+use Rattle.dc_status.specs.declared.status.Status.TheVariants.{BadScript}
+use Rattle.dc_status.specs.Played.{status_of}
+use Rattle.dc_serving.specs.Runs.{machine_run}
+use Rattle.dc_commands.specs.Replay.{Outcome, outcome, whole_text, with_status, Keeps}
 
 -- A head with a bad line comes to that line.
 pub other_keeps : (limit k : ℕ) (h : HeadRead) (whole : List ℕ) → h ≡ other k → Keeps (outcome limit h) whole [] (BadScript k)

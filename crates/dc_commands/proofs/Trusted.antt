@@ -1,4 +1,4 @@
--- Runs keep their promises: those that are served, and those that scripts ask for.
+-- The runs that scripts ask for keep their promises.
 use Rattle.std.proofs.Common.{◌≡◌, ℕ, ◌+◌, Bool, true, false, cond, leb, bytes_eq, List, [], ◌∷◌, ◌++◌, length, codes, refl, sym, ◌∙◌, ap, arith, Option, Some, None, option_map, option_and_then, Result, Ok, Err}
 use Rattle.std.specs.Prelude.{All}
 use Rattle.std.proofs.lemmas.List.{length-append, length-take}
@@ -8,21 +8,14 @@ use Rattle.dc_model.specs.Name.{Name, root}
 use Rattle.dc_model.specs.Places.{empty_places, places_of}
 use Rattle.dc_model.specs.Rules.{Zone, duplicate, zones_full, add_zone, is_zone, with_zone as more_zones, PermitRefusal, Permits, add_permit}
 use Rattle.dc_model.proofs.MessageLemmas.{each-append, some_of}
-use Rattle.dc_rules.specs.Settings.{rules_of}
-use Rattle.dc_rules.specs.declared.config.Config.{Config}
 use Rattle.dc_script.specs.Heading.{HeadLine, version_line, size_line, forward_line, allow_line, root_line, zone_line, seed_line, begin_line, version_word, size_word, yes_word, seed_word, servers_said, places_said, zone_word, only_word, root_said, zone_said, heading_by, heading_said, heading_of}
 use Rattle.dc_script.specs.Head.{Head, no_head, Stage, at_version, at_size, at_forward, at_allows, at_zones, at_begin, HeadStep, refused, going, begun, with_permit, with_zone, step_by, step_said, head_step, HeadRead, behind, other, head_from, head_of}
 use Rattle.dc_script.specs.Script.{Words, words_of, ◌>>=◌, at_end, Said, said_at_end, with_event, said_from, event_of_line, most_line, pieces_of}
 use Rattle.dc_script.specs.Read.{line_event}
 use Rattle.dc_script.proofs.LineBack.{line-back}
 use Rattle.dc_trust.specs.Faith.{HaveSixteen}
-use Rattle.dc_trust.specs.Promises.{KeepsPromises}
-use Rattle.dc_trust.proofs.Running.{seeded_promises}
-use Rattle.dc_commands.specs.Replay.{run_with, RunsTrusted}
-
--- A run that is served keeps its promises.
-pub run_trusted : (c : Config) (seed : List ℕ) (events : List Event) → HaveSixteen c.zones → All IsEvent events → KeepsPromises (rules_of c).zones (run_with c seed events)
-run_trusted c seed events z h = seeded_promises (rules_of c) seed _ events z h
+use Rattle.dc_serving.proofs.TrustedRuns.{run_trusted}
+use Rattle.dc_commands.specs.Replay.{RunsTrusted}
 
 -- The events of a script
 

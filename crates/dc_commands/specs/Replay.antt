@@ -1,44 +1,20 @@
 -- What replaying a script comes to.
-use Rattle.std.specs.Prelude.{◌≡◌, ℕ, ◌+◌, min, max, List, [], ◌++◌, take}
+use Rattle.std.specs.Prelude.{◌≡◌, ℕ, ◌+◌, List, [], ◌++◌, take}
 use Rattle.std.specs.declared.option.Option.{Option}
 use Rattle.std.specs.Io.KnownBytes.{IsAtEnd}
-use Rattle.dc_model.specs.Cache.{Cache, empty}
-use Rattle.dc_model.specs.Event.{Event, Action}
-use Rattle.dc_machine.specs.Run.{Taken, seeded_run, actions_of}
 use Rattle.dc_trust.specs.Promises.{KeepsPromises}
 use Rattle.dc_event.specs.Told.{BeginsWith}
 use Rattle.dc_rules.specs.Settings.{rules_of}
-use Rattle.dc_rules.specs.declared.config.Config.{Config}
 use Rattle.dc_script.specs.Head.{HeadRead, behind, other, head_of, MayFollow}
 use Rattle.dc_script.specs.Read.{line_event}
 use Rattle.dc_script.specs.Script.{said_from}
 use Rattle.dc_script.specs.Text.{text_of}
 use Rattle.dc_play.specs.Playing as playing
 use Rattle.dc_play.specs.Playing.{outcome_of}
-use Rattle.dc_play.specs.declared.played.Played.{Played}
-use Rattle.dc_play.specs.declared.played.Played.TheVariants as played
-use Rattle.dc_commands.specs.declared.status.Status.{Status}
-use Rattle.dc_commands.specs.declared.status.Status.TheVariants.{Done, Spent, Usage, BadVariable, NoRoot, BadZone, BadPermit, FilesFault, SeedShort, ReadFault, WriteFault, BadScript, WorldFault, NoMemory}
-
--- The empty cache of a configuration: its size is brought into 100 to 1000000000 bytes.
-abbrev pub cache_of : Config → Cache
-cache_of c = empty (min (max c.size 100) 1000000000)
-
--- The machine's run of these events, with a configuration and a seed.
-abbrev pub run_with : Config → List ℕ → List Event → List Taken
-run_with c seed events = seeded_run (rules_of c) seed (cache_of c) events
-
--- What the resolver's machine does at these events, with a configuration and a seed.
-unfoldable pub machine_run : Config → List ℕ → List Event → List Action
-machine_run c seed events = actions_of (run_with c seed events)
-
--- The status of what was played.
-abbrev pub status_of : Played → Status
-status_of played.Done = Done
-status_of played.Spent = Spent
-status_of (played.Bad k) = BadScript k
-status_of played.ReadFault = ReadFault
-status_of played.WriteFault = WriteFault
+use Rattle.dc_serving.specs.Runs.{run_with, machine_run}
+use Rattle.dc_status.specs.Played.{status_of}
+use Rattle.dc_status.specs.declared.status.Status.{Status}
+use Rattle.dc_status.specs.declared.status.Status.TheVariants.{Done, Spent, Usage, BadVariable, NoRoot, BadZone, BadPermit, FilesFault, SeedShort, ReadFault, WriteFault, BadScript, BadImage, Unequal, WorldFault, NoMemory}
 
 -- How a replay ends where neither input nor output fails, and the text that it writes.
 pub record Outcome : Type 0 where
@@ -75,6 +51,8 @@ Keeps promised whole text ReadFault = text ≡ whole
 Keeps promised whole text WriteFault = BeginsWith text promised.text
 Keeps promised whole text NoMemory = text ≡ []
 Keeps promised whole text Usage = ⊥
+Keeps promised whole text BadImage = ⊥
+Keeps promised whole text Unequal = ⊥
 Keeps promised whole text (BadVariable v) = ⊥
 Keeps promised whole text NoRoot = ⊥
 Keeps promised whole text (BadZone f) = ⊥

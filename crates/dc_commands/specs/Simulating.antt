@@ -1,16 +1,8 @@
 -- What simulating comes to.
 use Rattle.std.specs.Prelude.{◌≡◌, ℕ, List}
 use Rattle.dc_event.specs.Told.{GainedFront}
-use Rattle.dc_simulate.specs.declared.command.Simulated.{Simulated}
-use Rattle.dc_simulate.specs.declared.command.Simulated.TheVariants as simulated
-use Rattle.dc_commands.specs.declared.status.Status.{Status}
-use Rattle.dc_commands.specs.declared.status.Status.TheVariants.{Done, Spent, Usage, BadVariable, NoRoot, BadZone, BadPermit, FilesFault, SeedShort, ReadFault, WriteFault, BadScript, WorldFault, NoMemory}
-
--- The status of a simulation.
-abbrev pub status_of : Simulated → Status
-status_of simulated.Done = Done
-status_of simulated.WriteFault = WriteFault
-status_of simulated.NoMemory = NoMemory
+use Rattle.dc_status.specs.declared.status.Status.{Status}
+use Rattle.dc_status.specs.declared.status.Status.TheVariants.{Done, Spent, Usage, BadVariable, NoRoot, BadZone, BadPermit, FilesFault, SeedShort, ReadFault, WriteFault, BadScript, BadImage, Unequal, WorldFault, NoMemory}
 
 -- What a sink gained of a summary, by the status: all of it; a front, where the output failed; or nothing, where there wasn't memory enough.
 -- Other statuses don't come.
@@ -20,6 +12,8 @@ Simulates gained WriteFault old text new = GainedFront gained old text new
 Simulates gained NoMemory old text new = new ≡ old
 Simulates gained Spent old text new = ⊥
 Simulates gained Usage old text new = ⊥
+Simulates gained BadImage old text new = ⊥
+Simulates gained Unequal old text new = ⊥
 Simulates gained (BadVariable v) old text new = ⊥
 Simulates gained NoRoot old text new = ⊥
 Simulates gained (BadZone f) old text new = ⊥

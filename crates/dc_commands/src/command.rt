@@ -7,17 +7,17 @@ ghost use Rattle.dc_play.specs.Playing.{limit_of};
 ghost use Rattle.dc_simulate.specs.Told.{summary_of};
 ghost use Rattle.dc_commands.specs.Command.{command_of};
 ghost use Rattle.dc_commands.specs.Alone.{Alone};
-ghost use Rattle.dc_commands.specs.Faults.{fault_of, files_well, source_well, sink_well, world_well};
+ghost use Rattle.dc_status.specs.Faults.{fault_of, files_well, source_well, sink_well, world_well};
 ghost use Rattle.dc_commands.specs.Replay.{Replayed};
-ghost use Rattle.dc_commands.specs.Serving.{Served};
+ghost use Rattle.dc_serving.specs.Serving.{Served};
 ghost use Rattle.dc_commands.specs.Simulating.{Simulates};
 
 use crate::replay::replay_command;
-use crate::serving::serve_command;
-use crate::status::Status;
 use dc_config::{Env, Files};
 use dc_event::{Sink, Source, World};
+use dc_serving::serve_command;
 use dc_simulate::{Simulation, simulate_command};
+use dc_status::Status;
 use std::alloc::Global;
 
 /// What the words of a command and the environment ask for.

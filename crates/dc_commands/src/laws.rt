@@ -1,16 +1,20 @@
-//! Laws on how serving ends.
+//! Laws on how a replay ends.
 
-ghost use Rattle.std.specs.Prelude.{◌≡◌, ◌≤◌, ℕ, List, length, Result, Ok};
-ghost use Rattle.std.specs.declared.option.Option.{Option};
-ghost use Rattle.std.specs.Io.KnownBytes.{IsAtEnd};
-ghost use Rattle.dc_rules.specs.declared.config.Config.{Config};
-ghost use Rattle.dc_config.specs.declared.error.ConfigError.{ConfigError};
-ghost use Rattle.dc_commands.specs.declared.status.Status.{Status};
-ghost use Rattle.dc_commands.specs.Serving.{Refused, FitsConf, IsFault};
+ghost use Rattle.std.specs.Prelude.{◌≡◌, ◌<◌, ◌⊎◌, ℕ, true, List, length, None, Some};
+ghost use Rattle.dc_model.specs.Event.{Event};
+ghost use Rattle.dc_script.specs.Head.{Head, head_of, script_said};
+ghost use Rattle.dc_status.specs.Faults.{fault_of, source_well, sink_well};
+ghost use Rattle.dc_status.specs.declared.status.Status.{Status};
+ghost use Rattle.dc_commands.specs.Replay.{Outcome, Keeps, outcome};
 
-/// Where the configuration is defined and the source has a whole seed, nothing but a fault or want of memory keeps events from being
-/// served.
-pub fn only_faults_prevent_serving()
-    ensures { (status : Status) (conf : Result Config ConfigError) (c : Config) (taken : List ℕ) (left : Option (List ℕ)) → conf ≡ Ok c → (IsAtEnd left → 32 ≤ length taken)
-        → FitsConf status conf → Refused status taken left → IsFault status }
+/// A whole script, of a head and of fewer events than are allowed, comes to Done.
+pub fn whole_scripts_come_to_done()
+    ensures { (text : List ℕ) (h : Head) (events : List Event) (limit : ℕ) → script_said text ≡ record { head = Some h; said = record { events = events; bad = None } }
+        → length events < limit → (outcome limit (head_of text)).status ≡ Status.Done }
+{}
+
+/// Where a script comes to Done and neither a read nor a write failed, its replay is Done, or there wasn't memory enough.
+pub fn only_faults_prevent_done()
+    ensures { (promised : Outcome) (whole : List ℕ) (text : List ℕ) (status : Status) → promised.status ≡ Status.Done → Keeps promised whole text status
+        → source_well (fault_of status) ≡ true → sink_well (fault_of status) ≡ true → (status ≡ Status.Done) ⊎ (status ≡ Status.NoMemory) }
 {}

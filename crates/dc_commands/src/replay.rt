@@ -1,28 +1,15 @@
 //! Replaying a script: its actions, in the order in which they come, as text.
-ghost use Rattle.std.specs.Prelude.{◌≡◌, IfOk};
-ghost use Rattle.dc_machine.specs.Run.{opening};
-ghost use Rattle.dc_rules.specs.Settings.{rules_of};
 ghost use Rattle.dc_event.specs.Causes.{Fares};
 ghost use Rattle.dc_play.specs.Playing.{limit_of};
-ghost use Rattle.dc_commands.specs.Faults.{fault_of, source_well, sink_well};
-ghost use Rattle.dc_commands.specs.Replay.{Replayed, cache_of};
+ghost use Rattle.dc_status.specs.Faults.{fault_of, source_well, sink_well};
+ghost use Rattle.dc_commands.specs.Replay.{Replayed};
 
-use crate::status::Status;
-use dc_core::Core;
 use dc_event::{Sink, Source};
 use dc_play::{Events, Places, play};
-use dc_ring::ArenaStore;
-use dc_rules::Config;
 use dc_script::{ScriptError, read_head};
-use std::alloc::{AllocError, Global};
-
-/// A core with an empty cache of the configured size.
-pub(crate) fn core_of(alloc: Global, config: Config) -> Result<Core<ArenaStore>, AllocError>
-    ensures { IfOk result (λ c. c ≡ record { rules = rules_of config; machine = opening (cache_of config); handled = 0 }) }
-{
-    let store = ArenaStore::new(alloc, config.size)?;
-    Core::new(alloc, config, store)
-}
+use dc_serving::core_of;
+use dc_status::Status;
+use std::alloc::Global;
 
 /// Replays the script that a source gives, and writes its actions to a sink. At most `turns` events are handled, and never more than 2^60.
 ///

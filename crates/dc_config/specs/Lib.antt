@@ -4,6 +4,7 @@ pub mod Tree
 pub mod Told
 pub mod Answered
 pub mod Variables
+pub mod Modes
 pub mod Folders
 pub mod Asked
 pub mod Conf

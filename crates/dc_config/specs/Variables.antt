@@ -4,7 +4,7 @@ use Rattle.std.specs.List.{list_all}
 use Rattle.dc_model.specs.Name.{is_digit, number_value, address_of}
 use Rattle.dc_config.specs.Environment.{Environment, value_of}
 use Rattle.dc_config.specs.declared.error.Variable.{Variable}
-use Rattle.dc_config.specs.declared.error.Variable.TheVariants.{Ip, Ipsend, Cachesize}
+use Rattle.dc_config.specs.declared.error.Variable.TheVariants.{Ip, Ipsend, Cachesize, Cores, Image, Events, Record}
 use Rattle.dc_config.specs.declared.error.ConfigError.{ConfigError}
 use Rattle.dc_config.specs.declared.error.ConfigError.TheVariants.{BadVariable}
 use Rattle.dc_config.specs.declared.variables.Variables.{Variables}
@@ -14,10 +14,15 @@ abbrev pub name_of : Variable → List ℕ
 name_of Ip = codes "IP"
 name_of Ipsend = codes "IPSEND"
 name_of Cachesize = codes "CACHESIZE"
+name_of Cores = codes "CORES"
+name_of Image = codes "IMAGE"
+name_of Events = codes "EVENTS"
+name_of Record = codes "RECORD"
 
 -- The names of all variables that are read.
 abbrev pub names : List (List ℕ)
-names = codes "IP" ∷ codes "IPSEND" ∷ codes "CACHESIZE" ∷ codes "FORWARDONLY" ∷ []
+names =
+    codes "IP" ∷ codes "IPSEND" ∷ codes "CACHESIZE" ∷ codes "FORWARDONLY" ∷ codes "CORES" ∷ codes "IMAGE" ∷ codes "EVENTS" ∷ codes "RECORD" ∷ []
 
 -- The address that a variable says: it is one in text. 0.0.0.0 is one too.
 abbrev pub address_in : List ℕ → Environment → Option (List ℕ)

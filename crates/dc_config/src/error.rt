@@ -5,7 +5,7 @@ ghost use Rattle.dc_config.specs.Variables.{name_of};
 use crate::FileName;
 use std::alloc::AllocError;
 
-/// A variable that has to be set.
+/// A variable of the environment that may be refused.
 #[derive(Clone, Copy, Debug, PartialEq, Eq)]
 pub enum Variable {
     /// `IP`, the address on which clients are served.
@@ -14,6 +14,14 @@ pub enum Variable {
     Ipsend,
     /// `CACHESIZE`, the number of bytes of the cache.
     Cachesize,
+    /// `CORES`, over how many cores the names are split.
+    Cores,
+    /// `IMAGE`, the path of the file that keeps the cache.
+    Image,
+    /// `EVENTS`, after how many events a service that keeps its cache ends.
+    Events,
+    /// `RECORD`, with which the service writes its own run.
+    Record,
 }
 
 impl Variable {
@@ -25,6 +33,10 @@ impl Variable {
             Variable::Ip => "IP",
             Variable::Ipsend => "IPSEND",
             Variable::Cachesize => "CACHESIZE",
+            Variable::Cores => "CORES",
+            Variable::Image => "IMAGE",
+            Variable::Events => "EVENTS",
+            Variable::Record => "RECORD",
         }
     }
 }
@@ -32,7 +44,7 @@ impl Variable {
 /// Why there is no configuration.
 #[derive(Debug, Drop)]
 pub enum ConfigError {
-    /// The variable isn't set, or can't be read.
+    /// IP, IPSEND or CACHESIZE isn't set, or can't be read.
     BadVariable(Variable),
     /// The file in `servers` has a name that is no zone's, or its zone can't be added.
     BadZone(FileName),

@@ -9,6 +9,7 @@ mod files;
 mod folders;
 mod host;
 mod memory;
+mod modes;
 #[cfg(test)]
 mod tests;
 mod variables;
@@ -20,5 +21,8 @@ pub use file_name::FileName;
 pub use files::{FileRead, Files, Listed};
 pub use host::HostFiles;
 pub use memory::{MemoryFiles, QuietFiles};
+pub use modes::{
+    MOST_CORES, cores_in, events_in, first_bad_kept, first_bad_recorded, first_bad_split, is_set,
+};
 pub use std::alloc::AllocError as NoMemory;
 pub use variables::{first_bad, names};

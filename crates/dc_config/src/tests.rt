@@ -3,7 +3,8 @@ ghost use Rattle.std.specs.Prelude.{◌≡◌, length, IfOk};
 
 use crate::{
     ConfigError, Env, FileName, FileRead, Files, HostFiles, Listed, MemoryFiles, NoMemory,
-    QuietFiles, Variable, first_bad, load,
+    QuietFiles, Variable, cores_in, events_in, first_bad, first_bad_kept, first_bad_recorded,
+    first_bad_split, is_set, load,
 };
 use dc_name::Name;
 use dc_rules::Config;
@@ -50,9 +51,7 @@ const OTHER: (&str, &[u8]) = ("x/y", b"");
 fn told(answer: &Result<Config, ConfigError>) -> (&str, &str) {
     match answer {
         Ok(_) => ("ok", ""),
-        Err(ConfigError::BadVariable(Variable::Ip)) => ("variable", "IP"),
-        Err(ConfigError::BadVariable(Variable::Ipsend)) => ("variable", "IPSEND"),
-        Err(ConfigError::BadVariable(Variable::Cachesize)) => ("variable", "CACHESIZE"),
+        Err(ConfigError::BadVariable(variable)) => ("variable", variable.name()),
         Err(ConfigError::BadZone(file)) => ("zone", file.text()),
         Err(ConfigError::NoRoot) => ("root", ""),
         Err(ConfigError::BadPermit(file)) => ("permit", file.text()),
@@ -278,5 +277,99 @@ fn real_faults_are_counted(rt: HostRuntime) -> Result<(), Fail> {
     }
     assert!(rt; os::rmdir(&strange) == 0);
     fs::remove_dir_all(&rt, folder.as_str())?;
+    Ok(())
+}
+
+#[test]
+fn modes_are_read(rt: HostRuntime) -> Result<(), Fail> {
+    let alloc = rt.alloc();
+    let cores = [
+        ("1", Some(1)),
+        ("8", Some(8)),
+        ("0", None),
+        ("9", None),
+        ("08", None),
+        ("", None),
+        ("two", None),
+        ("18446744073709551617", None),
+    ];
+    for (text, count) in cores {
+        let env = env_of(alloc, [("CORES", text), ("X", ""), ("Y", "")])?;
+        assert!(rt; cores_in(&env) == count);
+        assert!(rt; is_set(Variable::Cores, &env) && !is_set(Variable::Image, &env));
+    }
+    let events = [
+        ("0", Some(0)),
+        ("18446744073709551615", Some(u64::MAX)),
+        ("18446744073709551616", None),
+        ("+1", None),
+    ];
+    for (text, count) in events {
+        let env = env_of(alloc, [("EVENTS", text), ("X", ""), ("Y", "")])?;
+        assert!(rt; events_in(&env) == count);
+    }
+    Ok(())
+}
+
+#[test]
+fn modes_are_refused_behind_the_others(rt: HostRuntime) -> Result<(), Fail> {
+    let alloc = rt.alloc();
+    let rows = [(
+        [("CORES", "2"), ("IMAGE", "i"), ("EVENTS", "x")],
+        (Some(Variable::Ip), Some(Variable::Ip), Some(Variable::Ip)),
+    )];
+    for (settings, (split, kept, recorded)) in rows {
+        let env = env_of(alloc, settings)?;
+        assert!(rt; first_bad_split(&env) == split);
+        assert!(rt; first_bad_kept(&env) == kept);
+        assert!(rt; first_bad_recorded(&env) == recorded);
+    }
+    let rows = [
+        ("X", "", "Y", "", (Some(Variable::Cores), None, None)),
+        (
+            "CORES",
+            "2",
+            "Y",
+            "",
+            (None, Some(Variable::Image), Some(Variable::Record)),
+        ),
+        (
+            "CORES",
+            "9",
+            "EVENTS",
+            "x",
+            (
+                Some(Variable::Cores),
+                Some(Variable::Image),
+                Some(Variable::Record),
+            ),
+        ),
+        (
+            "IMAGE",
+            "i",
+            "EVENTS",
+            "x",
+            (
+                Some(Variable::Cores),
+                Some(Variable::Events),
+                Some(Variable::Record),
+            ),
+        ),
+        (
+            "IMAGE",
+            "i",
+            "EVENTS",
+            "7",
+            (Some(Variable::Cores), None, Some(Variable::Record)),
+        ),
+    ];
+    for (a, x, b, y, (split, kept, recorded)) in rows {
+        let mut env = env_of(alloc, GOOD)?;
+        env.set(String::from_str(alloc, a)?, String::from_str(alloc, x)?);
+        env.set(String::from_str(alloc, b)?, String::from_str(alloc, y)?);
+        assert!(rt; first_bad_split(&env) == split);
+        assert!(rt; first_bad_kept(&env) == kept);
+        assert!(rt; first_bad_recorded(&env) == recorded);
+    }
     Ok(())
 }

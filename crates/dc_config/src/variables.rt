@@ -12,7 +12,7 @@ const MOST_SIZE: u64 = 1000000000;
 const FORWARDONLY: &str = "FORWARDONLY";
 
 /// The names of all variables that are read.
-pub fn names() -> [&'static str; 4]
+pub fn names() -> [&'static str; 8]
     ensures { map (λ name. name.now) result ≡ defined.names }
 {
     [
@@ -20,6 +20,10 @@ pub fn names() -> [&'static str; 4]
         Variable::Ipsend.name(),
         Variable::Cachesize.name(),
         FORWARDONLY,
+        Variable::Cores.name(),
+        Variable::Image.name(),
+        Variable::Events.name(),
+        Variable::Record.name(),
     ]
 }
 

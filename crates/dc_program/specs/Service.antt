@@ -5,8 +5,8 @@ use Rattle.dc_rules.specs.declared.config.Config.{Config}
 use Rattle.dc_system.specs.Call.{Call}
 use Rattle.dc_sock.specs.World.{Shown}
 use Rattle.dc_sock.specs.Service.{RunsService}
-use Rattle.dc_commands.specs.Serving.{session_passes}
-use Rattle.dc_commands.specs.declared.status.Status.{Status}
+use Rattle.dc_serving.specs.Serving.{session_passes}
+use Rattle.dc_status.specs.declared.status.Status.{Status}
 
 -- For the configuration and the seed there are events such that the calls that were made of the system are, to an operator, exactly the
 -- machine's run over these events.

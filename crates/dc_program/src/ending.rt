@@ -5,8 +5,8 @@ ghost use Rattle.dc_event.specs.Causes.{Fares};
 ghost use Rattle.dc_program.specs.Exit.{exit_of};
 ghost use Rattle.dc_program.specs.Texts.{fatal, text_of, Puts};
 
-use dc_commands::Status;
 use dc_event::{Put, Sink, put_all};
+use dc_status::Status;
 use itoa::Buffer;
 use std::process::ExitCode;
 
@@ -38,13 +38,13 @@ fn put_fatal<K: Sink>(sink: &mut K, words: &[u8], about: &[u8]) -> bool
     put(sink, b"\n")
 }
 
-/// Puts why the program ended, unless it ended well, and tells whether all of it was put. It takes no memory.
+/// Puts why the program ended, unless it ended well or has written what isn't as recorded, and tells whether all of it was put. It takes no memory.
 pub fn report<K: Sink>(sink: &mut K, status: &Status) -> bool
     ensures puts { Puts K.gained result sink.old (text_of status.now) sink.new }
     ensures fares { Fares K.gained K.refused K.faults result sink.old sink.new }
 {
     match status {
-        Status::Done | Status::Spent => true,
+        Status::Done | Status::Spent | Status::Unequal => true,
         Status::Usage => {
             put_fatal(
                 sink,
@@ -66,17 +66,19 @@ pub fn report<K: Sink>(sink: &mut K, status: &Status) -> bool
             let mut digits = Buffer::new();
             put_fatal(sink, b"bad script line ", digits.format(*line).as_bytes())
         }
+        Status::BadImage => put_fatal(sink, b"bad cache image", b""),
         Status::WorldFault => put_fatal(sink, b"network or log fault", b""),
         Status::NoMemory => put_fatal(sink, b"out of memory", b""),
     }
 }
 
-/// The exit status: 0 where the program ended well, 100 for unknown words, and else 111.
+/// The exit status: 0 where the program ended well, 1 where a recorded run isn't as recorded, 100 for unknown words, and else 111.
 pub fn exit_code(status: &Status) -> ExitCode
     ensures { exit_status result ≡ exit_of status.now }
 {
     ExitCode::from(match status {
         Status::Done | Status::Spent => 0,
+        Status::Unequal => 1,
         Status::Usage => 100,
         _ => 111,
     })

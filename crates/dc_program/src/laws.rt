@@ -5,8 +5,8 @@ ghost use Rattle.dc_config.specs.Environment.{Environment};
 ghost use Rattle.dc_config.specs.Tree.{Tree};
 ghost use Rattle.dc_core.specs.Running.{Running};
 ghost use Rattle.dc_sock.specs.World.{Shown};
-ghost use Rattle.dc_commands.specs.Serving.{IsSession, IsConfigured};
-ghost use Rattle.dc_commands.specs.declared.status.Status.{Status};
+ghost use Rattle.dc_serving.specs.Serving.{IsSession, IsConfigured};
+ghost use Rattle.dc_status.specs.declared.status.Status.{Status};
 ghost use Rattle.dc_program.specs.Service.{IsService};
 
 use dc_event::World;

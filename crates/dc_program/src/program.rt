@@ -2,11 +2,12 @@
 ghost use Rattle.std.specs.Prelude.{◌≡◌, IfOk};
 
 use crate::{Invocation, NoMemory, Unread, environment, exit_code, report, words};
-use dc_commands::{Status, dnscache};
+use dc_commands::dnscache;
 use dc_config::{Files, HostFiles};
 use dc_event::{ReaderSource, Sink, Source, World, WriterSink};
 use dc_os::Os;
 use dc_sock::SocketWorld;
+use dc_status::Status;
 use std::alloc::Global;
 use std::io::Eprint;
 use std::net::Net;

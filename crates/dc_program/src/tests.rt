@@ -3,9 +3,9 @@
 use crate::{
     Invocation, MemoryInvocation, ProcessInvocation, environment, exit_code, report, words,
 };
-use dc_commands::Status;
 use dc_config::{Env, FileName, Variable};
 use dc_event::{MemorySink, QuietSink};
+use dc_status::Status;
 use std::alloc::{AllocError, Global};
 use std::test::Fail;
 
@@ -16,6 +16,10 @@ fn invocation(alloc: Global) -> Result<MemoryInvocation, AllocError> {
         arguments.push(String::from_str(alloc, argument)?)?;
     }
     let mut variables = Env::new(alloc)?;
+    variables.set(
+        String::from_str(alloc, "CORES")?,
+        String::from_str(alloc, "2")?,
+    );
     variables.set(
         String::from_str(alloc, "HOME")?,
         String::from_str(alloc, "/root")?,
@@ -48,6 +52,7 @@ fn words_and_variables_are_read(rt: HostRuntime) -> Result<(), Fail> {
     assert!(rt; environment.get("IPSEND") == Some("0.0.0.0"));
     assert!(rt; environment.get("CACHESIZE").is_none());
     assert!(rt; environment.get("FORWARDONLY") == Some(""));
+    assert!(rt; environment.get("CORES") == Some("2"));
     assert!(rt; environment.get("HOME").is_none());
     Ok(())
 }
@@ -71,7 +76,7 @@ fn file(alloc: Global, name: &str) -> Result<FileName, AllocError> {
 #[test]
 fn each_refusal_has_its_line(rt: HostRuntime) -> Result<(), Fail> {
     let alloc = rt.alloc();
-    let rows: [(Status, &[u8]); 14] = [
+    let rows: [(Status, &[u8]); 17] = [
         (Status::Done, b""),
         (Status::Spent, b""),
         (
@@ -81,6 +86,10 @@ fn each_refusal_has_its_line(rt: HostRuntime) -> Result<(), Fail> {
         (
             Status::BadVariable(Variable::Ipsend),
             b"dnscache: fatal: unable to read $IPSEND\n",
+        ),
+        (
+            Status::BadVariable(Variable::Record),
+            b"dnscache: fatal: unable to read $RECORD\n",
         ),
         (Status::NoRoot, b"dnscache: fatal: no root servers\n"),
         (
@@ -108,6 +117,8 @@ fn each_refusal_has_its_line(rt: HostRuntime) -> Result<(), Fail> {
             Status::BadScript(18446744073709551615),
             b"dnscache: fatal: bad script line 18446744073709551615\n",
         ),
+        (Status::BadImage, b"dnscache: fatal: bad cache image\n"),
+        (Status::Unequal, b""),
         (
             Status::WorldFault,
             b"dnscache: fatal: network or log fault\n",

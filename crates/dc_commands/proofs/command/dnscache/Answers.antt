@@ -1,11 +1,12 @@
 use Rattle.std.proofs.Common.{◌≡◌, true, [], inr, refl, sym, ap, ◌∙◌}
 use Rattle.dc_event.specs.Causes.{count_where}
 use Rattle.dc_commands.specs.declared.command.Command.TheVariants.{Replay, Simulate, Unknown}
-use Rattle.dc_commands.specs.declared.status.Status.TheVariants.{Usage}
+use Rattle.dc_status.specs.declared.status.Status.TheVariants.{Usage}
 use Rattle.dc_simulate.specs.Told.{summary_of, writes_well}
-use Rattle.dc_commands.specs.Faults.{fault_of, files_well, source_well, sink_well, world_well}
+use Rattle.dc_status.specs.Faults.{fault_of, files_well, source_well, sink_well, world_well}
 use Rattle.dc_commands.proofs.Promised.{kept_for}
-use Rattle.dc_commands.proofs.FareLemmas.{kept_files, kept_world, simulated_sink, simulated_files, simulated_source, simulated_world, simulated_usage, simulates, fares_as}
+use Rattle.dc_status.proofs.FareLemmas.{simulated_sink, simulated_files, simulated_source, simulated_world, simulated_usage, fares_as}
+use Rattle.dc_commands.proofs.FareLemmas.{kept_files, kept_world, simulates}
 use Rattle.dc_commands.proofs.command.dnscache.Goals as goal
 
 pub returns-in-Replay-clause-usage : goal.returns-in-Replay-clause-usage

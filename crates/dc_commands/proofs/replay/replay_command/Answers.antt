@@ -6,9 +6,9 @@ use Rattle.dc_script.specs.Head.{head_of}
 use Rattle.dc_script.specs.Script.{pieces_of}
 use Rattle.dc_play.specs.Playing.{run_of, limit_of, reads_well, writes_well}
 use Rattle.dc_core.specs.Running.{core_machine}
-use Rattle.dc_commands.specs.Faults.{fault_of, source_well, sink_well}
-use Rattle.dc_commands.proofs.FareLemmas.{played_source, played_sink, played_done, played_in_memory, fares_as}
-use Rattle.dc_commands.proofs.MachineRuns.{run_from}
+use Rattle.dc_status.specs.Faults.{fault_of, source_well, sink_well}
+use Rattle.dc_status.proofs.FareLemmas.{played_source, played_sink, played_done, played_in_memory, fares_as}
+use Rattle.dc_serving.proofs.MachineRuns.{run_from}
 use Rattle.dc_commands.proofs.Promised.{other_keeps, nothing_whole, behind_keeps}
 use Rattle.dc_commands.proofs.Trusted.{script_trusted}
 use Rattle.dc_commands.proofs.replay.replay_command.Goals as goal
@@ -55,7 +55,7 @@ returns-clause-replayed g c =
       taken = g.met.S.Source.took_both _ _ _ _ _ head.1 told.1.1;
       written = told.1.2;
       keeps = λ tail follows. behind_keeps (run_of core_machine (draws_of script.seed) core) (limit_of c.args.turns) script.lines (head_at script) head.0 script.rest.rest told.0 tail told.1.0
-          c.play.result c.from.result (run_from core script.config script.seed c.in-Ok-core_of.ensures) head.2 (told.1.3 tail follows) c.from.ensures;
+          c.play.result c.from.result (run_from core script.config script.seed c.in-Ok-core_of.ensures.opening) head.2 (told.1.3 tail follows) c.from.ensures;
       trust = λ tail follows. script_trusted ((head.0 ++ told.0) ++ tail);
       end = λ e. c.play.ensures.end (played_done c.play.result (sym c.from.ensures ∙ e));
       unwritten = λ e. played_in_memory c.play.result _ (sym c.from.ensures ∙ e);

@@ -5,10 +5,12 @@ use Rattle.dc_rules.specs.declared.config.Config.{Config}
 use Rattle.dc_config.specs.Tree.{Tree}
 use Rattle.dc_config.specs.Answered.{and_then}
 use Rattle.dc_config.specs.Folders.{zones_of, permits_of}
+use Rattle.dc_config.specs.Variables.{bad_variable}
 use Rattle.dc_config.specs.Conf.{config_of, conf_of}
 use Rattle.dc_config.specs.declared.error.ConfigError.{ConfigError}
 use Rattle.dc_config.specs.declared.variables.Variables.{Variables}
 use Rattle.dc_config.proofs.Steps.{refused, refuses, refuses-along, exits}
+use Rattle.dc_config.proofs.Naming.{names_bad, exit_names}
 use Rattle.dc_config.proofs.Asking.{fares_exits, asked_behind}
 use Rattle.dc_config.proofs.Zoned.{conf_refused, conf_is}
 use Rattle.dc_config.proofs.conf.load.Goals as goal
@@ -19,6 +21,11 @@ with_permits v zones permit = Ok (config_of v zones permit)
 
 abbrev with_zones : Tree → Variables → Zones → Result Config ConfigError
 with_zones t v zones = and_then (with_permits v zones) (permits_of t)
+
+pub returns-in_err-read-clause-variable : goal.returns-in_err-read-clause-variable
+returns-in_err-read-clause-variable g c =
+    let p = err_from_is_err_and c.from_residual.result c.from_residual.ensures.1 in
+    exit_names c.from_residual.result p.0 c.in_err-read.field-0.0 (bad_variable c.args.env.now) p.1 p.2 (names_bad c.args.env.now c.in_err-read.field-0.0 (sym c.in_err-read.ensures))
 
 pub returns-in_err-read-clause-conf : goal.returns-in_err-read-clause-conf
 returns-in_err-read-clause-conf g c = λ t e.

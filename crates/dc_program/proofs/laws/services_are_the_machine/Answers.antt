@@ -1,5 +1,5 @@
 use Rattle.dc_sock.proofs.ServiceLemmas.{runs_service}
-use Rattle.dc_commands.specs.Serving.{session_passes}
+use Rattle.dc_serving.specs.Serving.{session_passes}
 use Rattle.dc_program.proofs.laws.services_are_the_machine.Goals as goal
 
 pub returns : goal.returns

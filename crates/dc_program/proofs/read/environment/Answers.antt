@@ -17,5 +17,5 @@ loop-name-preserved g c =
 
 pub returns : goal.returns
 returns g c = λ value e name.
-    let at : c.loop-name.name-index ≡ 4 = omega arith in
+    let at : c.loop-name.name-index ≡ 8 = omega arith in
     c.loop-name.invariant.values value e name ∙ ap (λ k. value_among value (take k defined.names) name) at

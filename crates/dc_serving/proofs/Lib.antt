@@ -1,0 +1,6 @@
+pub mod Complete
+pub mod FareLemmas
+pub mod MachineRuns
+pub mod SeedLemmas
+pub mod ServingLemmas
+pub mod TrustedRuns
