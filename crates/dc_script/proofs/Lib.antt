@@ -17,3 +17,4 @@ pub mod LineBack
 pub mod HeadBack
 pub mod ScriptBack
 pub mod FaultyLemmas
+pub mod RecordingLemmas

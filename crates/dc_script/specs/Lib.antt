@@ -13,3 +13,4 @@ pub mod Head
 pub mod Heads
 pub mod EventText
 pub mod HeadText
+pub mod Recording

@@ -12,6 +12,7 @@ mod heading;
 pub mod laws;
 pub mod lines;
 mod reader;
+mod recording;
 mod setup;
 #[cfg(test)]
 mod tests;
@@ -27,6 +28,7 @@ pub use fault_world::FaultWorld;
 pub use head::{Script, ScriptError, read_head};
 pub use lines::{LineRest, NextLine};
 pub use reader::EventBuffer;
+pub use recording::write_event;
 pub use std::alloc::AllocError as NoMemory;
 pub use world::ScriptWorld;
 pub use write::write_action;

@@ -44,7 +44,7 @@ fn write_hex<K: Sink>(writer: &mut Writer, sink: &mut K, bytes: &[u8])
 }
 
 /// Writes what stands at the end of an action's line.
-fn write_rest<K: Sink>(writer: &mut Writer, sink: &mut K, rest: Rest<'_>)
+pub(crate) fn write_rest<K: Sink>(writer: &mut Writer, sink: &mut K, rest: Rest<'_>)
     ensures wrote { Wrote K.gained K.faults writer.old sink.old (rest_text rest.entry) writer.new sink.new }
     ensures fared { Fated K.gained K.refused K.faults writer.old.failed writer.new.failed sink.old sink.new }
 {

@@ -1,0 +1,8 @@
+//! A world whose run is recorded: each event that it hands out is written as a line of a script before it is handled.
+#![tactic(auto)]
+
+mod recorder;
+#[cfg(test)]
+mod tests;
+
+pub use recorder::RecordWorld;
