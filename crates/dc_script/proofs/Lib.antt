@@ -6,6 +6,7 @@ pub mod Decoding
 pub mod ReadLemmas
 pub mod BreakLemmas
 pub mod StateLemmas
+pub mod Furthering
 pub mod TellLemmas
 pub mod Placing
 pub mod HeadLemmas

@@ -117,7 +117,7 @@ at_feed (c ∷ cs) rest (suc m) lt h = at_feed cs rest m (omega arith) (rest_no 
 pub at_feed_of : (text line rest : List ℕ) (m : ℕ) → text ≡ line ++ (10 ∷ rest) → length line < m → HasNoFeed (take m text) → ⊥
 at_feed_of text line rest m e lt h = let P : List ℕ → Type 0 = λ t. HasNoFeed (take m t) in at_feed line rest m lt (subst P e h)
 
-too_long : (line : List ℕ) → most_line < length line → line_event line ≡ None
+pub too_long : (line : List ℕ) → most_line < length line → line_event line ≡ None
 too_long line h = let over : leb (length line) most_line ≡ false = grind (arith, nat_tests) in rw over refl
 
 not_end : (line : List ℕ) → most_line < length line → bytes_eq line (codes "end") ≡ false

@@ -14,3 +14,4 @@ pub mod Heads
 pub mod EventText
 pub mod HeadText
 pub mod Recording
+pub mod Further

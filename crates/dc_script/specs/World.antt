@@ -1,6 +1,7 @@
 -- A recorded world: what it has read and written, and the relations between two of its states.
 use Rattle.std.specs.Prelude.{◌≡◌, ℕ, ◌+◌, ◌^◌, ◌<◌, Bool, true, false, ◌&&◌, List, [], ◌∷◌, ◌++◌, ◌⊎◌, length, take, refl}
 use Rattle.std.proofs.Common.{sym, ◌∙◌, ap, ◌≤◌, arith, subst}
+use Rattle.std.proofs.lemmas.Bool.{false≢true}
 use Rattle.std.specs.declared.option.Option.{Option}
 use Rattle.std.specs.declared.option.Option.TheVariants.{None, Some}
 use Rattle.std.specs.Io.KnownBytes.{IsAtEnd}
@@ -8,7 +9,7 @@ use Rattle.dc_model.specs.Event.{Event, IsEvent, Action}
 use Rattle.dc_event.specs.declared.answers.Heard.{Heard as Answer}
 use Rattle.dc_event.specs.declared.answers.Heard.TheVariants as answer
 use Rattle.dc_event.specs.Answers.{heard_by, count_heard}
-use Rattle.dc_event.specs.History.{Exchange, listened, asked, answer_by, done_all, events_in, actions_in, last_in, kept_in, events-both, actions-both, last-both, kept-both, events-done, actions-done, last-done, kept-done, events_asked, answered_by}
+use Rattle.dc_event.specs.History.{Exchange, listened, asked, answer_by, gathered_by, done_all, events_in, actions_in, last_in, kept_in, events-both, actions-both, last-both, kept-both, events-done, actions-done, last-done, kept-done, events_asked, answered_by}
 use Rattle.dc_script.specs.Script.{bad_at, most_line}
 use Rattle.dc_script.specs.Lines.{IsOneLine}
 use Rattle.dc_script.specs.declared.lines.NextLine.{NextLine}
@@ -21,7 +22,8 @@ use Rattle.dc_script.specs.Order.{over_after, late, over-both, late-both, neithe
 
 -- A recorded world over a source and a sink: the source, the text taken from it that isn't handed out, how many lines were handed out,
 -- the source's count of faults when the world was made, and whether a read has failed; the sink, its count when the world was made, and
--- whether a write has failed; the world's own count, its last answer, and the addresses that it keeps.
+-- whether a write has failed; the world's own count, its last answer, the addresses that it keeps, and the moment of the event that was
+-- handed out last.
 pub record Recorded (S K : Type 0) : Type 0 where
   pub source : S
   pub unread : List ℕ
@@ -34,6 +36,7 @@ pub record Recorded (S K : Type 0) : Type 0 where
   pub faults : ℕ
   pub last : Option Answer
   pub kept : Option (List ℕ × List ℕ)
+  pub moment : Option ℕ
 
 -- A recorded world that opens with these bytes of a script, behind so many lines.
 abbrev pub opened : {S K : Type 0} → (S → ℕ) → (K → ℕ) → List ℕ → ℕ → S → K → Recorded S K
@@ -49,6 +52,7 @@ opened source_faults sink_faults text lines source sink = record {
   faults = 0;
   last = None;
   kept = None;
+  moment = None;
 }
 
 -- These actions were written, and nothing else changed.
@@ -181,26 +185,26 @@ Acted-one {S} {K} gained refused faults a sink start failed x w f e =
 module _ {S K : Type 0} (gained : K → List ℕ → K → Type 0) (none : (a : K) → gained a [] a)
     (both : (a b c : K) (xs ys : List ℕ) → gained a xs b → gained b ys c → gained a (xs ++ ys) c) (refused : K → K → Type 0) (faults : K → ℕ) where
   -- Where the sink is the same, nothing was written.
-  pub Wrote-same : (a : Recorded S K) (source : S) (unread : List ℕ) (lines start : ℕ) (read_failed : Bool) (count : ℕ) (last : Option Answer) (kept : Option (List ℕ × List ℕ))
-      → Wrote gained refused faults a [] (record a { source = source; unread = unread; lines = lines; source_start = start; read_failed = read_failed; faults = count; last = last; kept = kept })
+  pub Wrote-same : (a : Recorded S K) (source : S) (unread : List ℕ) (lines start : ℕ) (read_failed : Bool) (count : ℕ) (last : Option Answer) (kept : Option (List ℕ × List ℕ)) (moment : Option ℕ)
+      → Wrote gained refused faults a [] (record a { source = source; unread = unread; lines = lines; source_start = start; read_failed = read_failed; faults = count; last = last; kept = kept; moment = moment })
   unfolding text_of
-  Wrote-same a source unread lines start read_failed count last kept = record { written = Written-none gained none both a.write_failed a.sink; fated = Fated-none gained refused faults a.write_failed a.sink; same_start = refl }
+  Wrote-same a source unread lines start read_failed count last kept moment = record { written = Written-none gained none both a.write_failed a.sink; fated = Fated-none gained refused faults a.write_failed a.sink; same_start = refl }
 
   pub Wrote-next : (old mid new : Recorded S K) (count : ℕ) (last : Option Answer)
-      → mid ≡ record old { source = mid.source; unread = mid.unread; lines = mid.lines; read_failed = mid.read_failed }
+      → mid ≡ record old { source = mid.source; unread = mid.unread; lines = mid.lines; read_failed = mid.read_failed; moment = mid.moment }
       → new ≡ record mid { faults = count; last = last } → Wrote gained refused faults old [] new
   Wrote-next old mid new count last e f =
       let P : Recorded S K → Type 0 = λ w. Wrote gained refused faults old [] w in
       let Q : Recorded S K → Type 0 = λ w. Wrote gained refused faults old [] (record w { faults = count; last = last }) in
-      subst P (sym f) (subst Q (sym e) (Wrote-same old mid.source mid.unread mid.lines old.source_start mid.read_failed count last old.kept))
+      subst P (sym f) (subst Q (sym e) (Wrote-same old mid.source mid.unread mid.lines old.source_start mid.read_failed count last old.kept mid.moment))
 
 -- What a call of `next` changes.
 pub next_same : {S K : Type 0} (old mid new : Recorded S K) (a : Answer)
-    → mid ≡ record old { source = mid.source; unread = mid.unread; lines = mid.lines; read_failed = mid.read_failed }
+    → mid ≡ record old { source = mid.source; unread = mid.unread; lines = mid.lines; read_failed = mid.read_failed; moment = mid.moment }
     → new ≡ record mid { faults = count_heard a mid.faults; last = Some a }
-    → new ≡ record old { source = new.source; unread = new.unread; lines = new.lines; read_failed = new.read_failed; faults = count_heard a old.faults; last = Some a }
+    → new ≡ record old { source = new.source; unread = new.unread; lines = new.lines; read_failed = new.read_failed; faults = count_heard a old.faults; last = Some a; moment = new.moment }
 next_same {S} {K} old mid new a e f =
-    let P : Recorded S K → Type 0 = λ w. w ≡ record old { source = w.source; unread = w.unread; lines = w.lines; read_failed = w.read_failed; faults = count_heard a old.faults; last = Some a } in
+    let P : Recorded S K → Type 0 = λ w. w ≡ record old { source = w.source; unread = w.unread; lines = w.lines; read_failed = w.read_failed; faults = count_heard a old.faults; last = Some a; moment = w.moment } in
     subst P (sym f) (ap {A = Recorded S K} (λ w. record w { faults = count_heard a w.faults; last = Some a }) e)
 
 -- What is unread behind a read that failed.
@@ -289,6 +293,20 @@ over_by_answer answer.End wake e before now same h = sym same ∙ h
 over_by_answer answer.Failed wake e before now same h = refl
 over_by_answer (answer.Bad line) wake e before now same h = sym same ∙ h
 
+-- A further event is no action, no answer and no call of `listen`.
+
+no_action : (more : Bool) (e : Event) → actions_in (gathered_by more e) ≡ []
+no_action true e = refl
+no_action false e = refl
+
+no_answer : (before : Option Answer) (more : Bool) (e : Event) → last_in before (gathered_by more e) ≡ before
+no_answer before true e = refl
+no_answer before false e = refl
+
+no_addresses : (before : Option (List ℕ × List ℕ)) (more : Bool) (e : Event) → kept_in before (gathered_by more e) ≡ before
+no_addresses before true e = refl
+no_addresses before false e = refl
+
 -- A read and a write haven't both failed: nothing is read where a write has.
 apart_by_read : (written before now : Bool) → (written ≡ true → now ≡ before) → written && before ≡ false → written && now ≡ false
 apart_by_read true before now same h = same refl ∙ h
@@ -358,7 +376,7 @@ module _ {S K : Type 0} (took : S → List ℕ → S → Type 0) (took_none : (a
       stopped = no_change a.read_failed (SaysNoMore a.unread);
       stays = λ failed. (failed, refl);
     };
-    done = Wrote-same gained gained_none gained_both refused sink_faults a a.source a.unread a.lines a.source_start a.read_failed a.faults a.last (Some (addr, send_from));
+    done = Wrote-same gained gained_none gained_both refused sink_faults a a.source a.unread a.lines a.source_start a.read_failed a.faults a.last (Some (addr, send_from)) a.moment;
     answered = refl;
     kept_addresses = refl;
     calm = λ none. (none, refl);
@@ -366,9 +384,31 @@ module _ {S K : Type 0} (took : S → List ℕ → S → Type 0) (took_none : (a
     apart = λ l h. h;
   }
 
+  -- A further event was read off what had been taken, or none.
+  pub Passed-gathered : (old : Recorded S K) (unread : List ℕ) (lines : ℕ) (more : Bool) (e : Event) → ReadOff took old.source old.unread old.lines (events_in (gathered_by more e)) old.source unread lines
+      → old.read_failed ≡ false → Passed took missed source_faults gained refused sink_faults old (gathered_by more e) (record old { unread = unread; lines = lines })
+  Passed-gathered old unread lines more e read unfailed =
+      let none : actions_in (gathered_by more e) ≡ [] = no_action more e in
+      record {
+        heard = record {
+          heard = read;
+          fated = Fated-none took missed source_faults old.read_failed old.source;
+          same_start = refl;
+          stopped = λ before now. absurd (false≢true (sym unfailed ∙ now));
+          stays = λ failed. absurd (false≢true (sym unfailed ∙ failed));
+        };
+        done = subst (λ xs. Wrote gained refused sink_faults old xs (record old { unread = unread; lines = lines })) (sym none)
+            (Wrote-same gained gained_none gained_both refused sink_faults old old.source unread lines old.source_start old.read_failed old.faults old.last old.kept old.moment);
+        answered = sym (no_answer old.last more e);
+        kept_addresses = sym (no_addresses old.kept more e);
+        calm = λ none. (none, refl);
+        over = λ failed. absurd (false≢true (sym unfailed ∙ failed));
+        apart = λ l h. h;
+      }
+
   -- A call of `next` hands out what was read, and keeps its answer.
   pub Passed-next : (old mid new : Recorded S K) (wake : Option ℕ) (a : Answer) (e : Event) → HandedOut took missed source_faults old (heard_by a e) mid
-      → mid ≡ record old { source = mid.source; unread = mid.unread; lines = mid.lines; read_failed = mid.read_failed }
+      → mid ≡ record old { source = mid.source; unread = mid.unread; lines = mid.lines; read_failed = mid.read_failed; moment = mid.moment }
       → new ≡ record mid { faults = count_heard a mid.faults; last = Some a }
       → IfFailed a (Unit {0}) (mid.read_failed ≡ old.read_failed)
       → (old.write_failed ≡ true → mid.read_failed ≡ old.read_failed)

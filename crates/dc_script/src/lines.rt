@@ -3,6 +3,7 @@ ghost use Rattle.std.specs.Prelude.{◌≡◌, ◌≢◌, ℕ, List, ◌+◌, �
 ghost use Rattle.std.specs.Io.KnownBytes.{IsAtEnd};
 ghost use Rattle.dc_event.specs.Answers.{taken_by, count_taken, IfTakeFailed};
 ghost use Rattle.dc_event.specs.Causes.{Fares};
+ghost use Rattle.dc_script.specs.Further.{Holds};
 ghost use Rattle.dc_script.specs.Lines.{IsOneLine, Finds, FindsNext, count_of, well_line};
 
 use dc_event::{Source, Taken};
@@ -166,6 +167,16 @@ impl LineRest {
         }
         self.take_off(len);
         NextLine::Found
+    }
+
+    /// Finds the next line among the bytes that are held, and answers whether there is a whole one. None are taken.
+    pub(crate) fn held_line(&mut self) -> bool
+        ensures { Holds result self.old.rest self.new }
+    {
+        match self.feed_from(0) {
+            Some(len) => matches!(self.found(len), NextLine::Found),
+            None => false,
+        }
     }
 
     /// Finds the next line. Further bytes are taken only where no whole line is held.

@@ -5,6 +5,7 @@ ghost use Rattle.dc_event.specs.Answers.{heard_by, Warrants, well_heard};
 ghost use Rattle.dc_event.specs.Causes.{counted, Fares};
 ghost use Rattle.dc_script.specs.Lines.{IsOneLine, Finds, well_line};
 ghost use Rattle.dc_model.specs.Event.{IsEvent};
+ghost use Rattle.dc_script.specs.Further.{HasNoLine, Gives, event_if};
 ghost use Rattle.dc_script.specs.Read.{unread, ReadOff};
 ghost use Rattle.dc_script.specs.Script.{AreDigits};
 ghost use Rattle.dc_script.specs.View.{line_says};
@@ -244,6 +245,71 @@ impl<S: Source> Reader<S> {
         } else {
             self.before_end(inbox)
         }
+    }
+}
+
+impl<S: Source> Reader<S> {
+    /// Finds the next line among the bytes that were taken, where none is found yet, and answers whether there is a whole one.
+    fn hold(&mut self) -> bool
+        ensures found { self.new.found ≡ result }
+        ensures unread { unread self.new.ended self.new.found self.new.rest.line self.new.rest.rest ≡ unread self.old.ended self.old.found self.old.rest.line self.old.rest.rest }
+        ensures none { result ≡ false → HasNoLine self.new.rest.rest }
+        ensures ended { self.new.ended ≡ self.old.ended }
+        ensures lines { self.new.lines ≡ self.old.lines }
+        ensures source { self.new.source ≡ self.old.source }
+        ensures start { self.new.start ≡ self.old.start }
+        ensures failed { self.new.failed ≡ self.old.failed }
+    {
+        if self.found {
+            return true;
+        }
+        let whole = self.rest.held_line();
+        self.found = whole;
+        whole
+    }
+
+    /// The event of the line that was found, if its moment is this one. It is put into the inbox.
+    fn event_at(&mut self, now: u64, inbox: &mut Inbox) -> bool
+        requires ended { self.old.ended ≡ false }
+        requires found { self.old.found ≡ true }
+        ensures gives { Gives result now (unread self.old.ended self.old.found self.old.rest.line self.old.rest.rest) inbox.old inbox.new }
+        ensures heard { ReadOff S.took self.old.source (unread self.old.ended self.old.found self.old.rest.line self.old.rest.rest) self.old.lines (event_if result inbox.new)
+            self.new.source (unread self.new.ended self.new.found self.new.rest.line self.new.rest.rest) self.new.lines }
+        ensures stays { result ≡ false → (unread self.new.ended self.new.found self.new.rest.line self.new.rest.rest ≡ unread self.old.ended self.old.found self.old.rest.line self.old.rest.rest) × (self.new.lines ≡ self.old.lines) }
+        ensures source { self.new.source ≡ self.old.source }
+        ensures start { self.new.start ≡ self.old.start }
+        ensures failed { self.new.failed ≡ self.old.failed }
+    {
+        let line = match event_line(self.rest.line()) {
+            Some(line) => line,
+            None => return false,
+        };
+        if line.event.now != now {
+            return false;
+        }
+        put_event(line, &mut self.bytes, inbox);
+        self.found = false;
+        self.lines = self.lines.saturating_add(1);
+        true
+    }
+
+    /// The next event, where its line was taken already and its moment is this one. No byte is taken off the source.
+    pub(crate) fn further(&mut self, now: u64, inbox: &mut Inbox) -> bool
+        ensures gives { Gives result now (unread self.old.ended self.old.found self.old.rest.line self.old.rest.rest) inbox.old inbox.new }
+        ensures heard { ReadOff S.took self.old.source (unread self.old.ended self.old.found self.old.rest.line self.old.rest.rest) self.old.lines (event_if result inbox.new)
+            self.new.source (unread self.new.ended self.new.found self.new.rest.line self.new.rest.rest) self.new.lines }
+        ensures stays { result ≡ false → (unread self.new.ended self.new.found self.new.rest.line self.new.rest.rest ≡ unread self.old.ended self.old.found self.old.rest.line self.old.rest.rest) × (self.new.lines ≡ self.old.lines) }
+        ensures source { self.new.source ≡ self.old.source }
+        ensures start { self.new.start ≡ self.old.start }
+        ensures failed { self.new.failed ≡ self.old.failed }
+    {
+        if self.ended {
+            return false;
+        }
+        if !self.hold() {
+            return false;
+        }
+        self.event_at(now, inbox)
     }
 }
 

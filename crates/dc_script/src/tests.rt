@@ -1,6 +1,8 @@
 //! What no clause says: good and bad lines, faults, and the text that is written.
 use crate::{LineRest, ScriptWorld};
-use dc_event::{Effects, Heard, Inbox, MemorySink, MemorySource, QuietSink, QuietSource, World};
+use dc_event::{
+    BatchWorld, Effects, Heard, Inbox, MemorySink, MemorySource, QuietSink, QuietSource, World,
+};
 use std::alloc::{AllocError, Global};
 use std::test::Fail;
 
@@ -176,5 +178,49 @@ fn failed_read(rt: HostRuntime) -> Result<(), Fail> {
         ),
         (1, 0, 3)
     );
+    Ok(())
+}
+
+/// Whether each of three calls gives a further event.
+fn three<W: BatchWorld>(world: &mut W, inbox: &mut Inbox) -> [bool; 3] {
+    let first = world.more(inbox);
+    let second = world.more(inbox);
+    let third = world.more(inbox);
+    [first, second, third]
+}
+
+/// Events of one moment, then one of another, a bad line, or the end; and lines that a source gives in small pieces.
+#[test]
+fn further_events(rt: HostRuntime) -> Result<(), Fail> {
+    let alloc = rt.alloc();
+    let mut inbox = Inbox::new(alloc)?;
+    let cases: [(&[u8], usize, [bool; 3]); 5] = [
+        (
+            b"at 5 tick\nat 5 conndown 1\nat 5 conndown 2\nat 6 tick\nend\n",
+            99,
+            [true, true, false],
+        ),
+        (
+            b"at 5 tick\nat 5 conndown 3\nat 5 tock\nend\n",
+            99,
+            [true, false, false],
+        ),
+        (
+            b"at 5 tick\nat 5 conndown 3\nend\n",
+            99,
+            [true, false, false],
+        ),
+        (b"at 5 tick\nend\n", 99, [false; 3]),
+        (b"at 5 tick\nat 5 conndown 3\nend\n", 1, [false; 3]),
+    ];
+    for (text, piece, wanted) in cases {
+        let source = MemorySource::new(text.to_vec(alloc)?, piece, Vec::new(alloc));
+        let sink = QuietSink::new(alloc, 8)?;
+        let mut world = ScriptWorld::new(alloc, LineRest::new(alloc)?, 0, source, sink)?;
+        assert_eq!(rt; three(&mut world, &mut inbox), [false; 3]);
+        assert_eq!(rt; world.next(None, &mut inbox), Heard::Event);
+        assert_eq!(rt; three(&mut world, &mut inbox), wanted);
+        assert_eq!(rt; inbox.event().now, 5);
+    }
     Ok(())
 }

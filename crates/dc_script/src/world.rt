@@ -3,10 +3,11 @@ ghost use Rattle.std.specs.Prelude.{◌≡◌, ◌+◌, ◌≤◌, ◌<◌, ◌^
 ghost use Rattle.std.specs.declared.option.Option.{Option};
 ghost use Rattle.std.specs.Io.KnownBytes.{IsAtEnd};
 ghost use Rattle.std.proofs.Common.{ap};
-ghost use Rattle.dc_model.specs.Event.{Action as ModelAction, Event};
-ghost use Rattle.dc_event.specs.Answers.{heard_by, count_heard, Warrants};
+ghost use Rattle.dc_model.specs.Event.{Action as ModelAction, Event, IsEvent};
+ghost use Rattle.dc_event.specs.Answers.{heard_by, count_heard, IfMore, Warrants};
 ghost use Rattle.dc_event.specs.Causes.{counted};
-ghost use Rattle.dc_event.specs.History.{asked, answer_by};
+ghost use Rattle.dc_event.specs.History.{asked, answer_by, gathered_by};
+ghost use Rattle.dc_script.specs.Further.{moment_by, HandsFurther};
 ghost use Rattle.dc_script.specs.View.{action_of};
 ghost use Rattle.dc_script.specs.World.{Recorded, opened, Acted, HandedOut, Passed, IsOver, Breaks, Acted-none, Acted-both, Acted-faults, Acted-passed, Passed-none, Passed-both, Answered, SaysNoMore, IfFailed};
 
@@ -14,7 +15,7 @@ use crate::action::Action;
 use crate::lines::LineRest;
 use crate::reader::{EventBuffer, Reader};
 use crate::writer::Writer;
-use dc_event::{Effects, Heard, Inbox, Sink, Source, World, WorldFailed};
+use dc_event::{BatchWorld, Effects, Heard, Inbox, Sink, Source, World, WorldFailed};
 use std::alloc::{AllocError, Global};
 use std::marker::Model;
 
@@ -29,6 +30,8 @@ pub struct ScriptWorld<S: Source, K: Sink> {
     faults: u64,
     last: Option<Heard>,
     kept: Option<([u8; 4], [u8; 4])>,
+    /// The moment of the event that was handed out last.
+    moment: Option<u64>,
 }
 
 impl<S: Source, K: Sink> Model for ScriptWorld<S, K> {
@@ -50,6 +53,7 @@ impl<S: Source, K: Sink> Model for ScriptWorld<S, K> {
       faults = a.faults;
       last = a.last;
       kept = a.kept;
+      moment = a.moment;
     } };
 
     ghost use Rattle.std.specs.Prelude.{◌≡◌, ◌<◌, ◌⊎◌, true};
@@ -92,6 +96,7 @@ impl<S: Source, K: Sink> ScriptWorld<S, K> {
             faults: 0,
             last: None,
             kept: None,
+            moment: None,
         }
     }
 
@@ -144,7 +149,8 @@ impl<S: Source, K: Sink> ScriptWorld<S, K> {
     /// The next event, where neither a read nor a write has failed.
     fn hear(&mut self, inbox: &mut Inbox) -> Heard
         ensures heard { HandedOut S.took S.refused S.faults self.old (heard_by result inbox.new) self.new }
-        ensures same { self.new ≡ record self.old { source = self.new.source; unread = self.new.unread; lines = self.new.lines; read_failed = self.new.read_failed } }
+        ensures same { self.new ≡ record self.old { source = self.new.source; unread = self.new.unread; lines = self.new.lines; read_failed = self.new.read_failed; moment = self.new.moment } }
+        ensures moment { self.new.moment ≡ moment_by result inbox.new self.old.moment }
         ensures answer { Answered result inbox.new (IsAtEnd (S.left self.new.source) × IsOver self.new.unread × (self.new.write_failed ≡ false))
             (λ number. Breaks (S.left self.new.source) self.new.unread self.new.lines number × (self.new.write_failed ≡ false))
             ((S.faults self.new.source ≡ counted self.new.source_start) ⊎ (K.faults self.new.sink ≡ counted self.new.sink_start)) }
@@ -162,7 +168,9 @@ impl<S: Source, K: Sink> ScriptWorld<S, K> {
         if self.reader.failed {
             return Heard::Failed;
         }
-        self.reader.hear(inbox)
+        let heard = self.reader.hear(inbox);
+        self.moment = moment_behind(heard, inbox, self.moment);
+        heard
     }
 
     /// Writes an action.
@@ -181,6 +189,16 @@ impl<S: Source, K: Sink> ScriptWorld<S, K> {
             self.faults = self.faults.saturating_add(1);
         }
         self.last = Some(answer);
+    }
+}
+
+/// The moment of the event that was handed out last, behind this answer.
+fn moment_behind(heard: Heard, inbox: &Inbox, before: Option<u64>) -> Option<u64>
+    ensures { result ≡ moment_by heard inbox.now before }
+{
+    match heard {
+        Heard::Event => Some(inbox.event().now),
+        Heard::End | Heard::Failed | Heard::Bad { .. } => before,
     }
 }
 
@@ -259,7 +277,9 @@ impl<S: Source, K: Sink> World for ScriptWorld<S, K> {
           read_failed = self.new.read_failed;
           faults = count_heard result self.old.faults;
           last = Some result;
+          moment = self.new.moment;
         } }
+        ensures moment { self.new.moment ≡ moment_by result inbox.new self.old.moment }
         ensures cause { result ≡ Heard.Failed → (S.faults self.new.source ≡ counted self.new.source_start) ⊎ (K.faults self.new.sink ≡ counted self.new.sink_start) }
         ensures stopped { self.old.read_failed ≡ false → self.new.read_failed ≡ true → SaysNoMore self.new.unread }
         ensures read { self.old.read_failed ≡ true → result ≡ Heard.Failed }
@@ -282,4 +302,22 @@ impl<S: Source, K: Sink> World for ScriptWorld<S, K> {
     ghost acted_history = { Acted-passed S.took S.took_none S.took_both S.refused S.faults K.gained K.gained_none K.gained_both K.refused K.faults };
 
     ghost acted_faults = { Acted-faults K.gained K.refused K.faults };
+}
+
+impl<S: Source, K: Sink> BatchWorld for ScriptWorld<S, K> {
+    /// Gives the next event where its moment is that of the event handed out last, and its line was taken whole off the source already.
+    fn more(&mut self, inbox: &mut Inbox) -> bool
+        ensures history { Passed S.took S.refused S.faults K.gained K.refused K.faults self.old (gathered_by result inbox.new) self.new }
+        ensures count { self.new.faults ≡ self.old.faults }
+        ensures bounds { IfMore result (IsEvent inbox.new) }
+        ensures further { HandsFurther result inbox.old inbox.new self.old self.new }
+    {
+        if self.reader.failed || self.writer.failed {
+            return false;
+        }
+        match self.moment {
+            Some(now) => self.reader.further(now, inbox),
+            None => false,
+        }
+    }
 }
