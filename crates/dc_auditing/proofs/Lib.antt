@@ -1,0 +1,4 @@
+pub mod SpreadLemmas
+pub mod FindingLemmas
+pub mod AskingLemmas
+pub mod ReportLemmas

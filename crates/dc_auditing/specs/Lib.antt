@@ -1,0 +1,4 @@
+pub mod Audited
+pub mod Findings
+pub mod Report
+pub mod Runs
