@@ -1,10 +1,12 @@
 -- What passes at a recorded world at one call.
-use Rattle.std.proofs.Common.{◌≡◌, ℕ, Bool, true, false, List, [], ◌∷◌, ◌++◌, Option, refl, sym, ap, ◌∙◌, subst}
+use Rattle.std.proofs.Common.{◌≡◌, ℕ, Bool, true, false, List, [], ◌∷◌, ◌++◌, Option, refl, sym, ap, ◌∙◌, subst, append_assoc}
 use Rattle.std.proofs.lemmas.List.{append-nil}
 use Rattle.dc_model.specs.Event.{Event}
 use Rattle.dc_event.specs.History.{Exchange, listened, asked, gave, failed, answer_by, events_in}
 use Rattle.dc_event.specs.declared.answers.Heard.{Heard}
 use Rattle.dc_event.specs.declared.answers.Heard.TheVariants as heard
+use Rattle.dc_script.specs.EventText.{event_text, events_text}
+use Rattle.dc_script.specs.Read.{end_text}
 use Rattle.dc_script.specs.Recording.{event_line}
 use Rattle.dc_record.specs.Recorded.{Recorder, Passed, Tells, Stopped, Wrote, lines_of}
 
@@ -73,3 +75,9 @@ module _ {W K : Type 0} (history : W → List Exchange → W → Type 0) (gained
   pub passed_failed : (still : (a : W) → history a [] a) (none : (a : K) → gained a [] a) (old : Recorder W K) (n : ℕ) (wake : Option ℕ) → old.failed ≡ true
       → Passed history gained old (asked wake failed ∷ []) (record old { faults = n })
   passed_failed still none old n wake e = record { inner = []; text = []; passed = still old.world; written = none old.sink; tells = tells_failed old.failed wake e }
+
+-- Lines of events with the line `end` behind them.
+pub lines_end : (es : List Event) → lines_of es ++ end_text ≡ events_text es
+lines_end [] = refl
+lines_end (e ∷ es) =
+    append_assoc (event_line e) (lines_of es) end_text ∙ append_assoc (event_text e) (10 ∷ []) (lines_of es ++ end_text) ∙ ap (λ (l : List ℕ). event_text e ++ (10 ∷ l)) (lines_end es)
