@@ -1,0 +1,5 @@
+mod LineLemmas
+mod InputLemmas
+mod GoingLemmas
+mod FlushLemmas
+mod SettleLemmas

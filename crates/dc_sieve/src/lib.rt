@@ -1,0 +1,7 @@
+//! The filter over an input: lines are read, their hosts are asked for, and lines are written.
+#![tactic(auto)]
+
+mod input;
+mod settle;
+
+pub use input::{Input, Read};
