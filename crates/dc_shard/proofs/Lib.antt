@@ -1,0 +1,5 @@
+pub mod BayLemmas
+pub mod HandLemmas
+pub mod RoundLemmas
+pub mod FollowLemmas
+pub mod ServeLemmas
