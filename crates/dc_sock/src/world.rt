@@ -3,14 +3,14 @@ ghost use Rattle.std.specs.Prelude.{◌≡◌, ◌≤◌, List, [], ◌∷◌, I
 ghost use Rattle.dc_model.specs.Event.{IsEvent};
 ghost use Rattle.dc_event.specs.Answers.{count_heard, Warrants};
 ghost use Rattle.dc_event.specs.Causes.{counted, count_by};
-ghost use Rattle.dc_event.specs.History.{listened, asked, answer_by};
+ghost use Rattle.dc_event.specs.History.{listened, asked, answer_by, gathered_by};
 ghost use Rattle.dc_system.specs.Call.{Call};
 ghost use Rattle.dc_sock.specs.Edge.{edge_of};
 ghost use Rattle.dc_sock.specs.World.{Shown, IsFresh, Explained, Explained-both, ActedBy, ActedBy-both, ActedBy-faults, Gives, Gave, AnswerNumbers};
 
 use crate::clients::reply;
 use crate::sockets::{Sockets, Turn};
-use dc_event::{Effects, Heard, Inbox, World, WorldFailed};
+use dc_event::{BatchWorld, Effects, Heard, Inbox, World, WorldFailed};
 use dc_system::System;
 use std::alloc::{AllocError, Global};
 use std::marker::Model;
@@ -254,4 +254,19 @@ impl<R: Wait, S: System> World for SocketWorld<R, S> {
     ghost acted_history = { λ a b xs p. p };
 
     ghost acted_faults = { ActedBy-faults S.called };
+}
+
+impl<R: Wait, S: System> BatchWorld for SocketWorld<R, S> {
+    /// Gives no further event: each is asked for. A look at a socket is a call of the system, also where it finds nothing, and each call
+    /// stands behind an exchange.
+    fn more(&mut self, inbox: &mut Inbox) -> bool
+        ensures history { Explained S.called self.old (gathered_by result inbox.new) self.new }
+        ensures count { self.new.faults ≡ self.old.faults }
+        ensures none { result ≡ false }
+        ensures same { self.new ≡ self.old }
+    {
+        let _ = &self.faults;
+        let _ = &inbox;
+        false
+    }
 }
