@@ -15,6 +15,8 @@ mod shards;
 mod step;
 mod tape;
 mod tapes;
+#[cfg(test)]
+mod tests;
 
 pub use bay::Bay;
 pub use serve::serve_shards;
