@@ -6,6 +6,7 @@
 
 mod job;
 mod kind;
+pub mod laws;
 mod running;
 mod tools;
 mod words;

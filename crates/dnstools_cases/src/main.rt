@@ -1,8 +1,11 @@
 //! Runs the tools on each case of its folder, and compares what they write with the file of the same name that ends in `.stdout`.
 //!
 //! A case has a seed, a number of turns, a tool with its words, and lines of `/etc/resolv.conf`; and behind an empty line the events of its
-//! world. What is wanted is the tool's text, the world's actions, and how the tool ended.
+//! world. What is wanted is the tool's text, the world's actions, and how the tool ended. Behind them come runs of which a file or the world
+//! fails.
 #![tactic(auto)]
+
+mod faults;
 
 use dc_config::{Env, QuietFiles};
 use dc_event::{MemorySource, QuietSink, Sink, World};
@@ -163,5 +166,6 @@ fn run_all(rt: &HostRuntime) -> io::Result<()> {
 }
 
 fn main(rt: HostRuntime) -> io::Result<()> {
-    run_all(&rt)
+    run_all(&rt)?;
+    faults::say_all(&rt)
 }
