@@ -3,3 +3,5 @@ mod InputLemmas
 mod GoingLemmas
 mod FlushLemmas
 mod SettleLemmas
+mod RunLemmas
+mod SiftLemmas

@@ -1,3 +1,4 @@
 pub mod Input
 pub mod Flushing
 pub mod Going
+pub mod Sifted
