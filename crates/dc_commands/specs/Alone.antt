@@ -1,6 +1,6 @@
 -- What a command leaves as it was.
 use Rattle.dc_commands.specs.declared.command.Command.{Command}
-use Rattle.dc_commands.specs.declared.command.Command.TheVariants.{Serve, Replay, Simulate, Unknown}
+use Rattle.dc_commands.specs.declared.command.Command.TheVariants.{Serve, Replay, Simulate, Audit, Unknown}
 
 -- For each object, that it is as it was.
 pub record Same : Type 1 where
@@ -13,4 +13,5 @@ abbrev pub Alone : Same → Command → Type 0
 Alone same Serve = same.sink
 Alone same Replay = same.files × same.world
 Alone same (Simulate seed events) = same.files × same.source × same.world
+Alone same Audit = same.source × same.world
 Alone same Unknown = same.files × same.source × same.sink × same.world

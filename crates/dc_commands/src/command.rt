@@ -1,11 +1,12 @@
 //! The top call: what the words of a command ask for is done.
-ghost use Rattle.std.specs.Prelude.{◌≡◌, ◌↔◌, ℕ};
+ghost use Rattle.std.specs.Prelude.{◌≡◌, ◌↔◌, ℕ, map, drop, string_bytes};
 ghost use Rattle.std.specs.declared.option.Option.{Option};
 ghost use Rattle.dc_event.specs.Causes.{Fares, count_where};
 ghost use Rattle.dc_core.specs.Running.{Running};
 ghost use Rattle.dc_play.specs.Playing.{limit_of};
 ghost use Rattle.dc_simulate.specs.Told.{summary_of};
-ghost use Rattle.dc_commands.specs.Command.{command_of};
+ghost use Rattle.dc_auditing.specs.Audited.{Audited};
+ghost use Rattle.dc_commands.specs.Command.{command_of, asks_audit};
 ghost use Rattle.dc_commands.specs.Alone.{Alone};
 ghost use Rattle.dc_status.specs.Faults.{fault_of, files_well, source_well, sink_well, world_well};
 ghost use Rattle.dc_commands.specs.Replay.{Replayed};
@@ -13,12 +14,17 @@ ghost use Rattle.dc_serving.specs.Serving.{Served};
 ghost use Rattle.dc_commands.specs.Simulating.{Simulates};
 
 use crate::replay::replay_command;
+use dc_auditing::audit_command;
 use dc_config::{Env, Files};
 use dc_event::{Sink, Source, World};
 use dc_serving::serve_command;
 use dc_simulate::{Simulation, simulate_command};
 use dc_status::Status;
 use std::alloc::Global;
+use std::thread::Threads;
+
+/// The most names whose runs are judged at once.
+const MOST_NAMES: usize = 1000;
 
 /// What the words of a command and the environment ask for.
 #[derive(Clone, Copy, Debug, PartialEq, Eq)]
@@ -29,8 +35,22 @@ pub enum Command {
     Replay,
     /// To run the resolver in the simulated world of a number, for so many events.
     Simulate { seed: u64, events: u64 },
+    /// To judge the recorded runs that the words behind the first one name.
+    Audit,
     /// Nothing that is known.
     Unknown,
+}
+
+/// Whether words are `audit` and 1 to 1000 names.
+fn asks_audit(words: &[String]) -> bool
+    ensures { result ≡ asks_audit (map string_bytes words.now) }
+{
+    match words {
+        [word, names @ ..] => {
+            word.as_bytes() == b"audit".as_slice() && 1 <= names.len() && names.len() <= MOST_NAMES
+        }
+        [] => false,
+    }
 }
 
 impl Command {
@@ -42,6 +62,7 @@ impl Command {
         match words.len() {
             0 => Command::Serve,
             1 if words[0].as_bytes() == b"replay".as_slice() => Command::Replay,
+            _ if asks_audit(words) => Command::Audit,
             _ => match Simulation::of(words) {
                 Some(asked) => Command::Simulate {
                     seed: asked.seed,
@@ -53,9 +74,11 @@ impl Command {
     }
 }
 
-/// Does what the words behind the program's name ask for: with no word it serves, with `replay` it replays a script, and with `simulate`
-/// and two numbers it runs in a simulated world. At most `turns` events are handled while serving and replaying, and never more than 2^60.
-pub fn dnscache<F: Files, S: Source, K: Sink, W: World>(
+/// Does what the words behind the program's name ask for: with no word it serves, with `replay` it replays a script, with `simulate` and two
+/// numbers it runs in a simulated world, and with `audit` and 1 to 1000 names it judges recorded runs, in threads. At most `turns` events
+/// are handled while serving and replaying, and never more than 2^60.
+pub fn dnscache<R: Threads + Sync, F: Files, S: Source, K: Sink, W: World>(
+    rt: &R,
     alloc: Global,
     words: &[String],
     env: &Env,
@@ -79,6 +102,7 @@ pub fn dnscache<F: Files, S: Source, K: Sink, W: World>(
     ensures served { command_of words.now env.now ≡ Command.Serve → (core : Option Running)
         × Served S.took S.left W.history W.used_up W.broken env.now (F.tree files.old) source.old source.new world.old world.new (limit_of turns) result core }
     ensures simulated { (seed events : ℕ) → command_of words.now env.now ≡ Command.Simulate seed events → Simulates K.gained result sink.old (summary_of seed events) sink.new }
+    ensures audited { command_of words.now env.now ≡ Command.Audit → Audited F.tree F.asked K.gained (map string_bytes (drop 1 words.now)) files.old files.new sink.old sink.new result }
     ensures replayed { command_of words.now env.now ≡ Command.Replay → Replayed S.took S.left K.gained source.old source.new sink.old sink.new (limit_of turns) result }
 {
     match Command::of(words, env) {
@@ -87,6 +111,7 @@ pub fn dnscache<F: Files, S: Source, K: Sink, W: World>(
         Command::Simulate { seed, events } => {
             Status::from(simulate_command(alloc, seed, events, sink))
         }
+        Command::Audit => audit_command(rt, alloc, &words[1..], files, sink),
         Command::Unknown => Status::Usage,
     }
 }

@@ -6,6 +6,7 @@ use dc_event::{MemorySink, MemorySource, QuietSink, QuietSource};
 use dc_script::{FaultWorld, LineRest, ScriptWorld};
 use std::alloc::{AllocError, Global};
 use std::test::Fail;
+use std::thread::Threads;
 
 /// The request of a client for the address of www.example.com.
 const ASKED: &[u8] =
@@ -192,6 +193,7 @@ fn serving_meets_faults(rt: HostRuntime) -> Result<(), Fail> {
 
 /// Replays the script: how that ended, and what was written.
 fn replay(
+    rt: &(impl Threads + Sync),
     alloc: Global,
     failing_takes: &[u64],
     failing_puts: &[u64],
@@ -201,6 +203,7 @@ fn replay(
     let mut source = MemorySource::new(SCRIPT.to_vec(alloc)?, 64, failing_takes.to_vec(alloc)?);
     let mut sink = MemorySink::new(alloc, 4096, failing_puts.to_vec(alloc)?)?;
     let status = dnscache(
+        rt,
         alloc,
         &words,
         &Env::new(alloc)?,
@@ -229,7 +232,7 @@ fn a_read_or_a_write_of_a_replay_fails(rt: HostRuntime) -> Result<(), Fail> {
         (&[], &[10], Status::WriteFault, 518),
     ];
     for (takes, puts, wanted, length) in rows {
-        let (status, written) = replay(rt.alloc(), takes, puts)?;
+        let (status, written) = replay(&rt, rt.alloc(), takes, puts)?;
         assert_eq!(rt; status, wanted);
         assert!(rt; written.len() == length);
         assert!(rt; length < FIRST.len() || written.starts_with(FIRST));

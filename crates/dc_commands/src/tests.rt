@@ -7,6 +7,7 @@ use dc_event::{MemorySink, MemorySource};
 use dc_script::{LineRest, ScriptWorld};
 use std::alloc::{AllocError, Global};
 use std::test::Fail;
+use std::thread::Threads;
 
 /// The seven lines before the events.
 const HEAD: &[u8] = b"dnscache-script 1
@@ -77,7 +78,11 @@ impl Replay {
     }
 
     /// Plays it: how that ended, and what was written.
-    fn play(&self, alloc: Global) -> Result<(Status, Vec<u8>), AllocError> {
+    fn play(
+        &self,
+        rt: &(impl Threads + Sync),
+        alloc: Global,
+    ) -> Result<(Status, Vec<u8>), AllocError> {
         let mut words = Vec::new(alloc);
         for word in self.words {
             words.push(String::from_str(alloc, word)?)?;
@@ -87,6 +92,7 @@ impl Replay {
         let mut source = MemorySource::new(script, 64, self.failing.to_vec(alloc)?);
         let mut sink = MemorySink::new(alloc, self.room, Vec::new(alloc))?;
         let status = dnscache(
+            rt,
             alloc,
             &words,
             &Env::new(alloc)?,
@@ -124,7 +130,7 @@ fn ends_of_scripts(rt: HostRuntime) -> Result<(), Fail> {
             STARTED,
         ),
     ] {
-        let (status, text) = Replay::of(events).play(rt.alloc())?;
+        let (status, text) = Replay::of(events).play(&rt, rt.alloc())?;
         assert_eq!(rt; status, wanted);
         assert_eq!(rt; &text[..], written);
     }
@@ -159,7 +165,7 @@ fn faults_and_turns(rt: HostRuntime) -> Result<(), Fail> {
         ),
         (Replay { turns: 1, ..all }, Status::Spent, ANSWERED),
     ] {
-        let (status, text) = replay.play(rt.alloc())?;
+        let (status, text) = replay.play(&rt, rt.alloc())?;
         assert_eq!(rt; status, wanted);
         assert_eq!(rt; &text[..], written);
     }
@@ -184,13 +190,14 @@ fn heads_and_words(rt: HostRuntime) -> Result<(), Fail> {
         (&["simulate"], HEAD, Status::Usage),
         (&["replay", "replay"], HEAD, Status::Usage),
         (&["Replay"], HEAD, Status::Usage),
+        (&["audit"], HEAD, Status::Usage),
     ] {
         let (status, text) = Replay {
             words,
             head,
             ..Replay::of(ASKED)
         }
-        .play(rt.alloc())?;
+        .play(&rt, rt.alloc())?;
         assert_eq!(rt; status, wanted);
         assert!(rt; text.is_empty());
     }
@@ -237,10 +244,15 @@ impl Service {
     }
 
     /// Serves a request: how that ended, and what the world was told.
-    fn serve(&self, alloc: Global) -> Result<(Status, Vec<u8>), AllocError> {
+    fn serve(
+        &self,
+        rt: &(impl Threads + Sync),
+        alloc: Global,
+    ) -> Result<(Status, Vec<u8>), AllocError> {
         let mut world = world_of(alloc, ASKED, self.failing)?;
         let seed = vec![in alloc; 0u8; self.seed]?;
         let status = dnscache(
+            rt,
             alloc,
             &[],
             &self.env(alloc)?,
@@ -284,7 +296,7 @@ fn serving(rt: HostRuntime) -> Result<(), Fail> {
             STARTED,
         ),
     ] {
-        let (status, text) = service.serve(rt.alloc())?;
+        let (status, text) = service.serve(&rt, rt.alloc())?;
         assert_eq!(rt; status, wanted);
         assert_eq!(rt; &text[..], told);
     }

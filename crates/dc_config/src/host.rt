@@ -11,14 +11,18 @@ use std::rt::Files as FileSystem;
 use std::{fs, io};
 
 /// The most bytes of a file.
-const MOST_BYTES: usize = 1000000;
+const MOST_BYTES: usize = 64_000_000;
 
-/// The folders and files of a runtime. They tell nothing. A folder or file that can't be read, a name that isn't UTF-8 and a
-/// file of over 1000000 bytes are faults.
+/// The most bytes of all files that are read.
+const MOST_READ: usize = 1_000_000_000;
+
+/// The folders and files of a runtime. They tell nothing. A folder or file that can't be read, a name that isn't UTF-8, a file of over
+/// 64000000 bytes, and one with which all bytes that were read pass 1000000000 are faults.
 #[derive(Drop)]
 pub struct HostFiles<R> {
     rt: R,
     faults: u64,
+    read: usize,
 }
 
 impl<R> Model for HostFiles<R> {
@@ -34,7 +38,16 @@ impl<R> HostFiles<R> {
     pub fn new(rt: R) -> HostFiles<R>
         ensures { result ≡ 0 }
     {
-        HostFiles { rt, faults: 0 }
+        HostFiles {
+            rt,
+            faults: 0,
+            read: 0,
+        }
+    }
+
+    /// The most bytes that the next file may have.
+    fn room(&self) -> usize {
+        MOST_BYTES.min(MOST_READ.saturating_sub(self.read))
     }
 
     /// Counts a fault.
@@ -59,11 +72,11 @@ fn names_in<R: FileSystem + Alloc + Clone + Drop>(
     Ok(names)
 }
 
-/// The first 1000001 bytes of a file.
-fn bytes_at<R: FileSystem>(rt: &R, alloc: Global, path: &str) -> io::Result<Vec<u8>> {
+/// The first bytes of a file, at most one more than `most`.
+fn bytes_at<R: FileSystem>(rt: &R, alloc: Global, path: &str, most: usize) -> io::Result<Vec<u8>> {
     let mut bytes = Vec::new(alloc);
     fs::open(rt, path)?
-        .take(MOST_BYTES as u64 + 1)
+        .take((most as u64).saturating_add(1))
         .read_to_end(&mut bytes)?;
     Ok(bytes)
 }
@@ -92,8 +105,12 @@ impl<R: FileSystem + Alloc + Clone + Drop> Files for HostFiles<R> {
     }
 
     fn read(&mut self, alloc: Global, path: &str) -> FileRead {
-        match bytes_at(&self.rt, alloc, path) {
-            Ok(bytes) if bytes.len() <= MOST_BYTES => FileRead::Bytes(bytes),
+        let room = self.room();
+        match bytes_at(&self.rt, alloc, path, room) {
+            Ok(bytes) if bytes.len() <= room => {
+                self.read = self.read.saturating_add(bytes.len());
+                FileRead::Bytes(bytes)
+            }
             Ok(_) => {
                 self.fail();
                 FileRead::Failed

@@ -264,7 +264,11 @@ fn real_faults_are_counted(rt: HostRuntime) -> Result<(), Fail> {
     let circle = below(alloc, folder.as_str(), "circle")?;
     symlink(&rt, "circle", circle.as_str())?;
     let long = below(alloc, folder.as_str(), "long")?;
-    fs::write(&rt, long.as_str(), vec![in alloc; 0u8; 1000001]?.as_slice())?;
+    fs::write(
+        &rt,
+        long.as_str(),
+        vec![in alloc; 0u8; 64000001]?.as_slice(),
+    )?;
     let behind = below(alloc, long.as_str(), "@")?;
     let mut strange = Vec::from_slice(alloc, servers.as_bytes())?;
     strange.extend_from_slice(b"/com\xff")?;

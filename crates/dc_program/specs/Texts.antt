@@ -14,7 +14,7 @@ abbrev pub text_of : Status → List ℕ
 text_of Done = []
 text_of Spent = []
 text_of Unequal = []
-text_of Usage = fatal (codes "usage: dnscache [replay | simulate SEED EVENTS]") []
+text_of Usage = fatal (codes "usage: dnscache [replay | simulate SEED EVENTS | audit FILE ..]") []
 text_of (BadVariable v) = fatal (codes "unable to read $") (name_of v)
 text_of NoRoot = fatal (codes "no root servers") []
 text_of (BadZone file) = fatal (codes "bad server file ") file

@@ -48,7 +48,7 @@ pub fn report<K: Sink>(sink: &mut K, status: &Status) -> bool
         Status::Usage => {
             put_fatal(
                 sink,
-                b"usage: dnscache [replay | simulate SEED EVENTS]",
+                b"usage: dnscache [replay | simulate SEED EVENTS | audit FILE ..]",
                 b"",
             )
         }

@@ -13,10 +13,12 @@ use std::io::Eprint;
 use std::net::Net;
 use std::process::ExitCode;
 use std::sync::Wait;
+use std::thread::Threads;
 use std::time::Clock;
 
-/// Does what the words ask for, without end. Words that can't be read count as unknown ones.
-pub fn run<P: Invocation, F: Files, S: Source, K: Sink, W: World>(
+/// Does what the words ask for, without end, and judges recorded runs in threads. Words that can't be read count as unknown ones.
+pub fn run<R: Threads + Sync, P: Invocation, F: Files, S: Source, K: Sink, W: World>(
+    rt: &R,
     alloc: Global,
     process: &P,
     files: &mut F,
@@ -33,6 +35,7 @@ pub fn run<P: Invocation, F: Files, S: Source, K: Sink, W: World>(
         return Status::NoMemory;
     };
     dnscache(
+        rt,
         alloc,
         &words,
         &environment,
@@ -52,7 +55,7 @@ fn world<R: Net>(system: &R, alloc: Global) -> Result<SocketWorld<&R, Os<&R>>, N
 }
 
 /// Does what the words ask for, with the sockets and the clock of a system, and with files, standard input and standard output.
-pub fn run_system<P: Invocation, R: Net + Wait + Clock + Eprint>(
+pub fn run_system<P: Invocation, R: Net + Wait + Clock + Eprint + Threads + Sync>(
     rt: &HostRuntime,
     system: &R,
     process: &P,
@@ -64,6 +67,7 @@ pub fn run_system<P: Invocation, R: Net + Wait + Clock + Eprint>(
     let mut source = ReaderSource::new(rt.stdin());
     let mut sink = WriterSink::new(rt.stdout());
     run(
+        system,
         rt.alloc(),
         process,
         &mut files,
@@ -74,7 +78,7 @@ pub fn run_system<P: Invocation, R: Net + Wait + Clock + Eprint>(
 }
 
 /// The program: it does what the words ask for, says on standard error why it ended, and ends with the exit status of that.
-pub fn start<P: Invocation, R: Net + Wait + Clock + Eprint>(
+pub fn start<P: Invocation, R: Net + Wait + Clock + Eprint + Threads + Sync>(
     rt: &HostRuntime,
     system: &R,
     process: &P,

@@ -81,7 +81,7 @@ fn each_refusal_has_its_line(rt: HostRuntime) -> Result<(), Fail> {
         (Status::Spent, b""),
         (
             Status::Usage,
-            b"dnscache: fatal: usage: dnscache [replay | simulate SEED EVENTS]\n",
+            b"dnscache: fatal: usage: dnscache [replay | simulate SEED EVENTS | audit FILE ..]\n",
         ),
         (
             Status::BadVariable(Variable::Ipsend),

@@ -1,12 +1,12 @@
 use Rattle.std.proofs.Common.{◌≡◌, true, [], inr, refl, sym, ap, ◌∙◌}
 use Rattle.dc_event.specs.Causes.{count_where}
-use Rattle.dc_commands.specs.declared.command.Command.TheVariants.{Replay, Simulate, Unknown}
+use Rattle.dc_commands.specs.declared.command.Command.TheVariants.{Replay, Simulate, Audit, Unknown}
 use Rattle.dc_status.specs.declared.status.Status.TheVariants.{Usage}
 use Rattle.dc_simulate.specs.Told.{summary_of, writes_well}
 use Rattle.dc_status.specs.Faults.{fault_of, files_well, source_well, sink_well, world_well}
 use Rattle.dc_commands.proofs.Promised.{kept_for}
 use Rattle.dc_status.proofs.FareLemmas.{simulated_sink, simulated_files, simulated_source, simulated_world, simulated_usage, fares_as}
-use Rattle.dc_commands.proofs.FareLemmas.{kept_files, kept_world, simulates}
+use Rattle.dc_commands.proofs.FareLemmas.{kept_files, kept_world, simulates, audited_source, audited_world, audited_known}
 use Rattle.dc_commands.proofs.command.dnscache.Goals as goal
 
 pub returns-in-Replay-clause-usage : goal.returns-in-Replay-clause-usage
@@ -62,3 +62,20 @@ returns-in-Simulate-clause-simulated g c = λ seed events e.
     let one : c.in-Simulate.seed ≡ seed = cc in
     let other : c.in-Simulate.events ≡ events = cc in
     rw (← one, ← other) wrote
+
+pub returns-in-Audit-clause-usage : goal.returns-in-Audit-clause-usage
+returns-in-Audit-clause-usage g c = (
+  λ e. absurd (audited_known _ _ _ _ _ _ _ _ c.audit_command.result c.audit_command.ensures.audited e),
+  λ e. let other : Audit ≡ Unknown = sym c.in-Audit.is ∙ c.of.ensures ∙ e in cc,
+)
+
+pub returns-in-Audit-clause-source_fares : goal.returns-in-Audit-clause-source_fares
+returns-in-Audit-clause-source_fares g c =
+    let source = g.S.Source in
+    let well = audited_source _ _ _ _ _ _ _ _ c.audit_command.result c.audit_command.ensures.audited in
+    fares_as source.took source.refused source.faults c.args.source.now c.args.source.now true (source_well (fault_of c.audit_command.result)) (sym well) refl
+
+pub returns-in-Audit-clause-world_fares : goal.returns-in-Audit-clause-world_fares
+returns-in-Audit-clause-world_fares g c =
+    let well = audited_world _ _ _ _ _ _ _ _ c.audit_command.result c.audit_command.ensures.audited in
+    ap (λ b. count_where b (g.W.World.faults c.args.world.now)) (sym well)
