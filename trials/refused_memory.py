@@ -142,7 +142,15 @@ near.serve(ROOT, 0)
 service()
 if tools:
     process = near.start(program, ADDRESS, SEND_FROM, ROOT)
-    for words in (["dnsip", "a.w.trial", "b.w.trial"], ["dnsqr", "a", "a.w.trial"]):
+    for words in (
+        ["dnsip", "a.w.trial", "b.w.trial"],
+        ["dnsname", "192.0.2.7"],
+        ["dnstxt", "a.w.trial"],
+        ["dnsmx", "a.w.trial"],
+        ["dnsqr", "a", "a.w.trial"],
+    ):
+        if not os.path.exists(tools + "/" + words[0]):
+            continue
         words = [tools + "/" + words[0], *words[1:]]
         memory(os.path.basename(words[0]), words, b"", front)
         streams(os.path.basename(words[0]), words, b"", [b"unable to write output\n"])
