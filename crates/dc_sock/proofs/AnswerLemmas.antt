@@ -38,12 +38,15 @@ use Rattle.dc_sock.specs.Asked.{none_asked, is_settled}
 use Rattle.dc_sock.specs.Found.{plain_found}
 use Rattle.dc_sock.specs.Numbers.{StepNumbers, IsOther, Others}
 use Rattle.dc_sock.specs.ClientCalls.{request_step, HearsRequests, AcceptGives, Accepts, seat_socket}
-use Rattle.dc_sock.specs.Edge.{Edge, Quiet, Looks, IsFound, Finds, Ticks, Hears}
+use Rattle.dc_sock.specs.Edge.{Edge, Quiet, Looks, IsFound, Finds, Ticks, Hears, NoneCame}
+use Rattle.dc_sock.specs.Passed.{Passed, exchanged, none_came, exchanges_of}
 use Rattle.dc_sock.specs.LinkCalls.{datagram_step, standing_step, part_step, missing_step, HearsWay}
 use Rattle.dc_sock.specs.Links.{link_socket}
 use Rattle.dc_sock.specs.SeatCalls.{new_seat, free_seat, conn_step, flush_rest, ReadsBehind, LooksAtConn, LooksAtSeat}
-use Rattle.dc_sock.specs.Streams.{takes, reply_to, replied_in, replies_to, IsAnswered, UpIsAnswered, SaidIsAnswered, IsAnsweredBehind, joined, AllAnswered, IsNumbered}
-use Rattle.dc_sock.specs.World.{Shown, IsFresh, Gave, Explains, Explained}
+use Rattle.dc_sock.specs.Streams.{takes, reply_to, replied_in, replies_to, IsAnswered, UpIsAnswered, SaidIsAnswered, IsAnsweredBehind, PassedIsAnswered, joined, AllAnswered, IsNumbered}
+use Rattle.dc_sock.specs.World.{Shown, IsFresh, Gave, Explains, Accounts, Accounted, Explained}
+use Rattle.dc_sock.specs.Place.{place_at}
+use Rattle.dc_sock.proofs.RoundLemmas.{passes_same}
 use Rattle.dc_sock.proofs.PlaceLemmas.{Steps, all_as, rest_steps, quiet_steps, looks_steps, hearing_miss, makes_steps}
 use Rattle.dc_sock.proofs.StreamLemmas.{get_set, get_other, Lives, lives_as, Reaches, move_lives, reach_then, move_numbered, numbered_as}
 
@@ -76,20 +79,23 @@ steps_reach i n t g a b calls m l =
 
 quiet_reaches : (wake : Option ℕ) (i n : ℕ) (t : List Call) (g : List ℕ) (a : Edge) (xs : List Call) (b : Edge) → Quiet wake a xs b → LivesIn i n t g a → ReachesIn i n t g xs b
 quiet_reaches wake i n t g a [] b q l =
-    inl (tt, lives_as i n (t ++ []) t g g a.seats b.seats a.next_conn b.next_conn (append-nil t) refl (ap (λ (x : Edge). x.seats) q) (ap (λ (x : Edge). x.next_conn) q) l)
+    let same = passes_same a b q in
+    inl (tt, lives_as i n (t ++ []) t g g a.seats b.seats a.next_conn b.next_conn (append-nil t) refl (ap (λ (x : Edge). x.seats) same) (ap (λ (x : Edge). x.next_conn) same) l)
 quiet_reaches wake i n t g a (x ∷ xs) b q l =
     reach_on i n t g (x ∷ []) xs q.0 b (steps_reach i n t g a q.0 (x ∷ []) (quiet_steps wake a x q.0 q.1.0) l) (λ s m. quiet_reaches wake i n s g q.0 xs b q.1.1 m)
 
 quiet_numbered : (wake : Option ℕ) (a : Edge) (xs : List Call) (b : Edge) → Quiet wake a xs b → NumberedIn a → NumberedIn b
-quiet_numbered wake a [] b q o = numbered_as a.seats b.seats a.next_conn b.next_conn (ap (λ (x : Edge). x.seats) q) (ap (λ (x : Edge). x.next_conn) q) o
+quiet_numbered wake a [] b q o =
+    let same = passes_same a b q in
+    numbered_as a.seats b.seats a.next_conn b.next_conn (ap (λ (x : Edge). x.seats) same) (ap (λ (x : Edge). x.next_conn) same) o
 quiet_numbered wake a (x ∷ xs) b q o =
     quiet_numbered wake q.0 xs b q.1.1 (move_numbered a.seats a.next_conn (x ∷ []) (λ k. []) q.0.seats q.0.next_conn (quiet_steps wake a x q.0 q.1.0) o)
 
 -- What `next` does.
 last_steps : (wake : Option ℕ) (a : Edge) (calls : List Call) (e : ModelEvent) (b : Edge) → Finds a calls e b ⊎ Ticks wake a calls e b → Steps a calls b
 last_steps wake a calls e b h = elim h [
-  | inl found ↦ looks_steps found.source a calls found.id found.gave found.buffer b found.looks
-  | inr due ↦ rest_steps a b calls (all_as calls [] due.none (λ s p. tt)) (ap (λ (x : Edge). x.seats) due.same) (ap (λ (x : Edge). x.next_conn) due.same)
+  | inl found ↦ looks_steps (place_at found.token) a calls found.id found.gave found.buffer b found.looks
+  | inr due ↦ rest_steps a b calls (all_as calls [] due.none (λ s p. tt)) (ap (λ (x : Edge). x.seats) due.left) (ap (λ (x : Edge). x.next_conn) due.left)
 ]
 
 said_reaches : (wake : Option ℕ) (i n : ℕ) (t : List Call) (g : List ℕ) (said : Answer) (a : Edge) (calls : List Call) (b : Edge) → Gave wake said a calls b → LivesIn i n t g a → ReachesIn i n t g calls b
@@ -113,6 +119,15 @@ said_numbered wake history.ended a calls b h o = absurd h
 said_numbered wake history.failed a calls b h o =
     numbered_as h.between.seats b.seats h.between.next_conn b.next_conn (ap (λ (x : Edge). x.seats) h.left) (ap (λ (x : Edge). x.next_conn) h.left) (quiet_numbered wake a calls h.between h.quiet o)
 said_numbered wake (history.bad number) a calls b h o = absurd h
+
+-- None had come.
+none_reaches : (i n : ℕ) (t : List Call) (g : List ℕ) (a : Edge) (calls : List Call) (b : Edge) → NoneCame a calls b → LivesIn i n t g a → ReachesIn i n t g calls b
+none_reaches i n t g a calls b h l =
+    reaches_at i n t g calls h.between b (ap (λ (x : Edge). x.seats) h.left) (ap (λ (x : Edge). x.next_conn) h.left) (quiet_reaches None i n t g a calls h.between h.quiet l)
+
+none_numbered : (a : Edge) (calls : List Call) (b : Edge) → NoneCame a calls b → NumberedIn a → NumberedIn b
+none_numbered a calls b h o =
+    numbered_as h.between.seats b.seats h.between.next_conn b.next_conn (ap (λ (x : Edge). x.seats) h.left) (ap (λ (x : Edge). x.next_conn) h.left) (quiet_numbered None a calls h.between h.quiet o)
 
 -- An event that isn't a connection that came.
 others_found : {X : Type 0} (gave : Step) (found : Found) → Others gave → IsFound gave found → kind_of found.kind ≡ conn_up → X
@@ -172,6 +187,7 @@ part_others server part.Failed = tt
 
 missing_others : (cause : NoSocket) → Others (missing_step cause)
 missing_others no_socket.PortTaken = tt
+missing_others no_socket.Full = tt
 missing_others no_socket.Failed = tt
 
 way_others : (way : Way) (socket : ℕ) (server : List ℕ) (calls : List Call) (gave : Step) (buffer : List ℕ) → HearsWay socket server way calls gave buffer → Others gave
@@ -270,7 +286,7 @@ hears_opens wake e a calls b h k o room = elim h.heard [
   | inl found ↦
       let id : e.id ≡ found.id = ap (λ (x : ModelEvent). x.id) found.event in
       let is : kind_of found.found.kind ≡ conn_up = sym (ap (λ (x : ModelEvent). x.kind) found.event) ∙ k in
-      let u : Opens h.between h.last found.id h.after = looks_open found.source h.between h.after h.last found.id found.gave found.buffer found.found found.looks found.one is in
+      let u : Opens h.between h.last found.id h.after = looks_open (place_at found.token) h.between h.after h.last found.id found.gave found.buffer found.found found.looks found.one is in
       let l = opens_lives h.between h.after h.last e.id (subst (λ (n : ℕ). Opens h.between h.last n h.after) (sym id) u) (quiet_numbered wake a h.before h.between h.quiet o) room in (
         h.before,
         l.0,
@@ -312,8 +328,8 @@ answered i n xs calls b r = elim r [
 ]
 
 module _ {S : Type 0} (called : S → List Call → S → Type 0) where
-  -- The calls of each exchange.
-  abbrev pub parts_of : (a b : Shown S) (xs : List Exchange) → Explained called a xs b → List (List Call)
+  -- The calls of each part.
+  abbrev pub parts_of : (a b : Shown S) (xs : List Passed) → Accounted called a xs b → List (List Call)
   parts_of a b [] p = []
   parts_of a b (x ∷ xs) p = p.1.0.0 ∷ parts_of p.0 b xs p.1.1
 
@@ -323,29 +339,38 @@ module _ {S : Type 0} (called : S → List Call → S → Type 0) where
       (rest_steps a.edge m.edge calls (all_as calls _ e.0.0.1.0 (hearing_miss e.0.0.0 addr a.port)) (ap (λ (w : Edge). w.seats) e.0.1) (ap (λ (w : Edge). w.next_conn) e.0.1)) l
   exchange_reaches i n t g (asked wake said) a m calls e l =
       subst (λ (h : List ℕ). ReachesIn i n t h calls m.edge) (sym (append-nil g)) (said_reaches wake i n t g said a.edge calls m.edge e.0 l)
-  exchange_reaches i n t g (gathered e) a m calls p l = absurd p
+  exchange_reaches i n t g (gathered x) a m calls e l =
+      subst (λ (h : List ℕ). ReachesIn i n t h calls m.edge) (sym (append-nil g)) (said_reaches None i n t g (history.gave x) a.edge calls m.edge e.0.0 l)
   exchange_reaches i n t g (did x) a m calls e l =
       move_lives i n t g a.edge.seats a.edge.next_conn calls (λ k. reply_to k x) m.edge.seats m.edge.next_conn (makes_steps x a.edge calls m.edge e.0) l
 
-  exchange_numbered : (x : Exchange) (a m : Shown S) (calls : List Call) → Explains x a calls m → NumberedIn a.edge → NumberedIn m.edge
+  pub exchange_numbered : (x : Exchange) (a m : Shown S) (calls : List Call) → Explains x a calls m → NumberedIn a.edge → NumberedIn m.edge
   exchange_numbered (listened addr send_from ok) a m calls e o =
       numbered_as a.edge.seats m.edge.seats a.edge.next_conn m.edge.next_conn (ap (λ (w : Edge). w.seats) e.0.1) (ap (λ (w : Edge). w.next_conn) e.0.1) o
   exchange_numbered (asked wake said) a m calls e o = said_numbered wake said a.edge calls m.edge e.0 o
-  exchange_numbered (gathered e) a m calls p o = absurd p
+  exchange_numbered (gathered x) a m calls e o = said_numbered None (history.gave x) a.edge calls m.edge e.0.0 o
   exchange_numbered (did x) a m calls e o =
       move_numbered a.edge.seats a.edge.next_conn calls (λ k. reply_to k x) m.edge.seats m.edge.next_conn (makes_steps x a.edge calls m.edge e.0) o
 
+  pub part_numbered : (x : Passed) (a m : Shown S) (calls : List Call) → Accounts x a calls m → NumberedIn a.edge → NumberedIn m.edge
+  part_numbered (exchanged x) a m calls e o = exchange_numbered x a m calls e o
+  part_numbered none_came a m calls e o = none_numbered a.edge calls m.edge e.0 o
+
   -- One connection, followed to the end of the run.
-  follows : (i n : ℕ) (t : List Call) (g : List ℕ) (a b : Shown S) (xs : List Exchange) (p : Explained called a xs b) → LivesIn i n t g a.edge → ReachesIn i n t (g ++ replies_to n xs) (joined (parts_of a b xs p)) b.edge
+  follows : (i n : ℕ) (t : List Call) (g : List ℕ) (a b : Shown S) (xs : List Passed) (p : Accounted called a xs b) → LivesIn i n t g a.edge → ReachesIn i n t (g ++ replies_to n (exchanges_of xs)) (joined (parts_of a b xs p)) b.edge
   follows i n t g a b [] p l =
       inl (tt, lives_as i n (t ++ []) t g (g ++ []) a.edge.seats b.edge.seats a.edge.next_conn b.edge.next_conn (append-nil t) (append-nil g) (ap (λ (w : Shown S). w.edge.seats) p) (ap (λ (w : Shown S). w.edge.next_conn) p) l)
-  follows i n t g a b (x ∷ xs) p l =
-      subst (λ (h : List ℕ). ReachesIn i n t h (p.1.0.0 ++ joined (parts_of p.0 b xs p.1.1)) b.edge) (append_assoc g (replied_in n x) (replies_to n xs))
-      (reach_then i n t (g ++ replied_in n x) (replies_to n xs) p.1.0.0 (joined (parts_of p.0 b xs p.1.1)) p.0.edge.seats b.edge.seats p.0.edge.next_conn b.edge.next_conn
+  follows i n t g a b (exchanged x ∷ xs) p l =
+      subst (λ (h : List ℕ). ReachesIn i n t h (p.1.0.0 ++ joined (parts_of p.0 b xs p.1.1)) b.edge) (append_assoc g (replied_in n x) (replies_to n (exchanges_of xs)))
+      (reach_then i n t (g ++ replied_in n x) (replies_to n (exchanges_of xs)) p.1.0.0 (joined (parts_of p.0 b xs p.1.1)) p.0.edge.seats b.edge.seats p.0.edge.next_conn b.edge.next_conn
       (exchange_reaches i n t g x a p.0 p.1.0.0 p.1.0.1.1 l)
       (λ s m. follows i n s (g ++ replied_in n x) p.0 b xs p.1.1 m))
+  follows i n t g a b (none_came ∷ xs) p l =
+      reach_then i n t g (replies_to n (exchanges_of xs)) p.1.0.0 (joined (parts_of p.0 b xs p.1.1)) p.0.edge.seats b.edge.seats p.0.edge.next_conn b.edge.next_conn
+      (none_reaches i n t g a.edge p.1.0.0 p.0.edge p.1.0.1.1.0 l)
+      (λ s m. follows i n s g p.0 b xs p.1.1 m)
 
-  up_answered : (k : Kind) (wake : Option ℕ) (e : ModelEvent) (a m b : Shown S) (xs : List Exchange) (calls : List Call) (p : Explained called m xs b) → e.kind ≡ k → Hears wake e a.edge calls m.edge → NumberedIn a.edge → UpIsAnswered k e.id calls xs (joined (parts_of m b xs p)) b.edge.seats
+  up_answered : (k : Kind) (wake : Option ℕ) (e : ModelEvent) (a m b : Shown S) (xs : List Passed) (calls : List Call) (p : Accounted called m xs b) → e.kind ≡ k → Hears wake e a.edge calls m.edge → NumberedIn a.edge → UpIsAnswered k e.id calls (exchanges_of xs) (joined (parts_of m b xs p)) b.edge.seats
   up_answered tick wake e a m b xs calls p k h o = tt
   up_answered request wake e a m b xs calls p k h o = tt
   up_answered datagram wake e a m b xs calls p k h o = tt
@@ -355,31 +380,38 @@ module _ {S : Type 0} (called : S → List Call → S → Type 0) where
   up_answered bind_refused wake e a m b xs calls p k h o = tt
   up_answered conn_up wake e a m b xs calls p k h o = λ room.
       let u = hears_opens wake e a.edge calls m.edge h k o room in
-      (u.0, u.1, u.2, (u.3.0, answered u.1 e.id xs (joined (parts_of m b xs p)) b.edge (follows u.1 e.id [] [] m b xs p u.3.1)))
+      (u.0, u.1, u.2, (u.3.0, answered u.1 e.id (exchanges_of xs) (joined (parts_of m b xs p)) b.edge (follows u.1 e.id [] [] m b xs p u.3.1)))
   up_answered conn_bytes wake e a m b xs calls p k h o = tt
   up_answered conn_down wake e a m b xs calls p k h o = tt
 
-  said_answered : (said : Answer) (wake : Option ℕ) (a m b : Shown S) (xs : List Exchange) (calls : List Call) (p : Explained called m xs b) → Gave wake said a.edge calls m.edge → NumberedIn a.edge → SaidIsAnswered said calls xs (joined (parts_of m b xs p)) b.edge.seats
+  said_answered : (said : Answer) (wake : Option ℕ) (a m b : Shown S) (xs : List Passed) (calls : List Call) (p : Accounted called m xs b) → Gave wake said a.edge calls m.edge → NumberedIn a.edge → SaidIsAnswered said calls (exchanges_of xs) (joined (parts_of m b xs p)) b.edge.seats
   said_answered (history.gave e) wake a m b xs calls p h o = up_answered e.kind wake e a m b xs calls p refl h o
   said_answered history.ended wake a m b xs calls p h o = tt
   said_answered history.failed wake a m b xs calls p h o = tt
   said_answered (history.bad number) wake a m b xs calls p h o = tt
 
-  behind_answered : (x : Exchange) (a m b : Shown S) (xs : List Exchange) (calls : List Call) (p : Explained called m xs b) → Explains x a calls m → NumberedIn a.edge → IsAnsweredBehind x calls xs (joined (parts_of m b xs p)) b.edge.seats
+  behind_answered : (x : Exchange) (a m b : Shown S) (xs : List Passed) (calls : List Call) (p : Accounted called m xs b) → Explains x a calls m → NumberedIn a.edge → IsAnsweredBehind x calls (exchanges_of xs) (joined (parts_of m b xs p)) b.edge.seats
   behind_answered (listened addr send_from ok) a m b xs calls p e o = tt
   behind_answered (asked wake said) a m b xs calls p e o = said_answered said wake a m b xs calls p e.0 o
-  behind_answered (gathered e) a m b xs calls p x o = tt
+  behind_answered (gathered x) a m b xs calls p e o = up_answered x.kind None x a m b xs calls p refl e.0.0 o
   behind_answered (did x) a m b xs calls p e o = tt
 
-  pub all_answered : (a b : Shown S) (xs : List Exchange) (p : Explained called a xs b) → NumberedIn a.edge → AllAnswered xs (parts_of a b xs p) b.edge.seats
+  part_answered : (x : Passed) (a m b : Shown S) (xs : List Passed) (calls : List Call) (p : Accounted called m xs b) → Accounts x a calls m → NumberedIn a.edge → PassedIsAnswered x calls (exchanges_of xs) (joined (parts_of m b xs p)) b.edge.seats
+  part_answered (exchanged x) a m b xs calls p e o = behind_answered x a m b xs calls p e o
+  part_answered none_came a m b xs calls p e o = tt
+
+  pub all_answered : (a b : Shown S) (xs : List Passed) (p : Accounted called a xs b) → NumberedIn a.edge → AllAnswered xs (parts_of a b xs p) b.edge.seats
   all_answered a b [] p o = refl
   all_answered a b (x ∷ xs) p o =
-      (behind_answered x a p.0 b xs p.1.0.0 p.1.1 p.1.0.1.1 o, all_answered p.0 b xs p.1.1 (exchange_numbered x a p.0 p.1.0.0 p.1.0.1.1 o))
+      (part_answered x a p.0 b xs p.1.0.0 p.1.1 p.1.0.1.1 o, all_answered p.0 b xs p.1.1 (part_numbered x a p.0 p.1.0.0 p.1.0.1.1 o))
 
   -- The places at the end of a run.
+  parts_numbered : (a b : Shown S) (xs : List Passed) → NumberedIn a.edge → Accounted called a xs b → NumberedIn b.edge
+  parts_numbered a b [] o p = subst (λ (w : Shown S). NumberedIn w.edge) (sym p) o
+  parts_numbered a b (x ∷ xs) o p = parts_numbered p.0 b xs (part_numbered x a p.0 p.1.0.0 p.1.0.1.1 o) p.1.1
+
   pub run_numbered : (a b : Shown S) (xs : List Exchange) → NumberedIn a.edge → Explained called a xs b → NumberedIn b.edge
-  run_numbered a b [] o p = subst (λ (w : Shown S). NumberedIn w.edge) (sym p) o
-  run_numbered a b (x ∷ xs) o p = run_numbered p.0 b xs (exchange_numbered x a p.0 p.1.0.0 p.1.0.1.1 o) p.1.1
+  run_numbered a b xs o p = parts_numbered a b p.0 o p.1.1
 
 -- Where no connection stands.
 no_seat : (k index : ℕ) (seat : Seat) → slice_get (replicate k free_seat) index ≡ Some seat → seat ≡ free_seat

@@ -28,7 +28,8 @@ use Rattle.dc_sock.specs.declared.seat.Conn.{Conn}
 use Rattle.dc_sock.specs.declared.seat.Seat.{Seat}
 use Rattle.dc_sock.specs.Numbers.{StepNumbers}
 use Rattle.dc_sock.specs.ClientCalls.{Hearing, refused, deaf, both, listen_calls, HearsRequests, AcceptGives, Accepts, NoneHas, HearsSeat, GoesSeat, Replies, seat_socket}
-use Rattle.dc_sock.specs.Edge.{Edge, QuietAccept, QuietRead, QuietWrite, QuietCall, Looks}
+use Rattle.dc_sock.specs.Edge.{Edge, QuietAccept, QuietRead, QuietWrite, QuietCall, QuietStep, Looks}
+use Rattle.dc_sock.proofs.RoundLemmas.{passes_same}
 use Rattle.dc_sock.specs.LinkCalls.{udp_calls, close_calls, write_calls, took_all, HearsWay}
 use Rattle.dc_sock.specs.Links.{Goes, LooksAt, link_socket}
 use Rattle.dc_sock.specs.Log.{Gathered, PrintsText, PutsLineIf, LinesIf}
@@ -57,8 +58,14 @@ all_as calls xs e m = subst MissesAll (sym e) m
 pub rest_steps : (a b : Edge) (calls : List Call) → MissesAll calls → b.seats ≡ a.seats → b.next_conn ≡ a.next_conn → Steps a calls b
 rest_steps a b calls m p q = rests m p q (λ index seat conn there is. refl)
 
-same_steps : (a b : Edge) (calls : List Call) → MissesAll calls → b ≡ a → Steps a calls b
+same_steps : (a b : Edge) (calls : List Call) → MissesAll calls → b ≡ record a { round = b.round } → Steps a calls b
 same_steps a b calls m e = rest_steps a b calls m (ap (λ (x : Edge). x.seats) e) (ap (λ (x : Edge). x.next_conn) e)
+
+-- From a state that differs only in what is looked at in turn.
+steps_from : (a m b : Edge) (calls : List Call) → m ≡ record a { round = m.round } → Steps m calls b → Steps a calls b
+steps_from a m b calls e s =
+    subst (λ (l : List Seat). Moves l a.next_conn calls no_bytes b.seats b.next_conn) (ap (λ (x : Edge). x.seats) e)
+    (subst (λ (n : ℕ). Moves m.seats n calls no_bytes b.seats b.next_conn) (ap (λ (x : Edge). x.next_conn) e) s)
 
 -- A write to the stream of a place, and what it took.
 write_took : (s : ℕ) (bytes : List ℕ) (answer : Option ℕ) → takes s (call.write s bytes answer ∷ []) ≡ taken_of bytes answer
@@ -98,7 +105,7 @@ read_steps a s part.End bytes b p =
     (λ n far. refl)
 read_steps a s part.Failed bytes b p = absurd p
 
-write_at : (c : Option Conn) (a b : Edge) (index : ℕ) (seat : Seat) (taken : ℕ) → seat.conn ≡ c → slice_get a.seats index ≡ Some seat → b ≡ record a { seats = slice_set a.seats index (record { conn = seat.conn; backlog = drop taken seat.backlog }) } → Steps a (call.write (seat_socket index) seat.backlog (Some taken) ∷ []) b
+write_at : (c : Option Conn) (a b : Edge) (index : ℕ) (seat : Seat) (taken : ℕ) → seat.conn ≡ c → slice_get a.seats index ≡ Some seat → b ≡ record a { seats = slice_set a.seats index (record { conn = seat.conn; backlog = drop taken seat.backlog }); round = b.round } → Steps a (call.write (seat_socket index) seat.backlog (Some taken) ∷ []) b
 write_at None a b index seat taken is there e =
     idles index seat (record { conn = seat.conn; backlog = drop taken seat.backlog }) there is is (write_misses (seat_socket index) seat.backlog (Some taken))
     (ap (λ (x : Edge). x.seats) e) (ap (λ (x : Edge). x.next_conn) e) (λ n. refl)
@@ -122,29 +129,33 @@ write_at (Some conn) a b index seat taken is there e =
 
 write_steps : (a : Edge) (s : ℕ) (bytes : List ℕ) (answer : Option ℕ) (b : Edge) → QuietWrite a s bytes answer b → Steps a (call.write s bytes answer ∷ []) b
 write_steps a s bytes answer b p =
-    let e : b ≡ record a { seats = slice_set a.seats p.0 (record { conn = p.1.conn; backlog = drop p.2 p.1.backlog }) } =
-    p.3.1.1.1.1 ∙ ap (λ (l : List ℕ). record a { seats = slice_set a.seats p.0 (record { conn = p.1.conn; backlog = drop p.2 l }) }) p.3.1.1.0 in
+    let e : b ≡ record a { seats = slice_set a.seats p.0 (record { conn = p.1.conn; backlog = drop p.2 p.1.backlog }); round = b.round } =
+    p.3.1.1.1.1 ∙ ap (λ (l : List ℕ). record a { seats = slice_set a.seats p.0 (record { conn = p.1.conn; backlog = drop p.2 l }); round = b.round }) p.3.1.1.0 in
     subst (λ (k : ℕ). Steps a (call.write k bytes answer ∷ []) b) (sym p.3.1.0)
     (subst (λ (l : List ℕ). Steps a (call.write (seat_socket p.0) l answer ∷ []) b) (sym p.3.1.1.0)
     (subst (λ (o : Option ℕ). Steps a (call.write (seat_socket p.0) p.1.backlog o ∷ []) b) (sym p.3.1.1.1.0) (write_at p.1.conn a b p.0 p.1 p.2 refl p.3.0 e)))
 
-pub quiet_steps : (wake : Option ℕ) (a : Edge) (x : Call) (b : Edge) → QuietCall wake a x b → Steps a (x ∷ []) b
-quiet_steps wake a (call.bind s addr port answer) b p = absurd p
-quiet_steps wake a (call.connect s addr port answer) b p = absurd p
-quiet_steps wake a (call.send s bytes answer) b p = absurd p
-quiet_steps wake a (call.send_to s addr port bytes answer) b p = absurd p
-quiet_steps wake a (call.receive s answer bytes) b p = same_steps a b _ (λ q i. ((refl, refl), tt)) p.1
-quiet_steps wake a (call.listen s addr port answer) b p = absurd p
-quiet_steps wake a (call.accept l s answer) b p = accept_steps a l s answer b p
-quiet_steps wake a (call.begin s addr port server to answer) b p = absurd p
-quiet_steps wake a (call.stands s answer) b p = same_steps a b _ (λ q i. ((refl, refl), tt)) p.1
-quiet_steps wake a (call.read s answer bytes) b p = read_steps a s answer bytes b p
-quiet_steps wake a (call.write s bytes answer) b p = write_steps a s bytes answer b p
-quiet_steps wake a (call.close s) b p = same_steps a b _ (λ q i. ((differs s q (λ e. let spare = p.0 in let under = i.1 in omega arith), refl), tt)) p.1
-quiet_steps wake a (call.wait pause answer) b p = rest_steps a b _ (λ q i. ((refl, refl), tt)) (ap (λ (x : Edge). x.seats) p.1) (ap (λ (x : Edge). x.next_conn) p.1)
-quiet_steps wake a (call.ready answer) b p = same_steps a b _ (λ q i. ((refl, refl), tt)) p
-quiet_steps wake a (call.now answer) b p = rest_steps a b _ (λ q i. ((refl, refl), tt)) (ap (λ (x : Edge). x.seats) p) (ap (λ (x : Edge). x.next_conn) p)
-quiet_steps wake a (call.print bytes ok) b p = rest_steps a b _ (λ q i. ((refl, refl), tt)) (ap (λ (x : Edge). x.seats) p.1) (ap (λ (x : Edge). x.next_conn) p.1)
+call_steps : (wake : Option ℕ) (a : Edge) (x : Call) (b : Edge) → QuietCall wake a x b → Steps a (x ∷ []) b
+call_steps wake a (call.bind s addr port answer) b p = absurd p
+call_steps wake a (call.connect s addr port answer) b p = absurd p
+call_steps wake a (call.send s bytes answer) b p = absurd p
+call_steps wake a (call.send_to s addr port bytes answer) b p = absurd p
+call_steps wake a (call.receive s answer bytes) b p = same_steps a b _ (λ q i. ((refl, refl), tt)) p.1
+call_steps wake a (call.listen s addr port answer) b p = absurd p
+call_steps wake a (call.accept l s answer) b p = accept_steps a l s answer b p
+call_steps wake a (call.begin s addr port server to answer) b p = absurd p
+call_steps wake a (call.stands s answer) b p = same_steps a b _ (λ q i. ((refl, refl), tt)) p.1
+call_steps wake a (call.read s answer bytes) b p = read_steps a s answer bytes b p
+call_steps wake a (call.write s bytes answer) b p = write_steps a s bytes answer b p
+call_steps wake a (call.close s) b p = same_steps a b _ (λ q i. ((differs s q (λ e. let spare = p.0 in let under = i.1 in omega arith), refl), tt)) p.1
+call_steps wake a (call.wait pause answer) b p = rest_steps a b _ (λ q i. ((refl, refl), tt)) (ap (λ (x : Edge). x.seats) p.1) (ap (λ (x : Edge). x.next_conn) p.1)
+call_steps wake a (call.ready answer) b p = same_steps a b _ (λ q i. ((refl, refl), tt)) p
+call_steps wake a (call.now answer) b p = rest_steps a b _ (λ q i. ((refl, refl), tt)) (ap (λ (x : Edge). x.seats) p) (ap (λ (x : Edge). x.next_conn) p)
+call_steps wake a (call.print bytes ok) b p = rest_steps a b _ (λ q i. ((refl, refl), tt)) (ap (λ (x : Edge). x.seats) p.1) (ap (λ (x : Edge). x.next_conn) p.1)
+
+-- Sources that are passed over before it change no place.
+pub quiet_steps : (wake : Option ℕ) (a : Edge) (x : Call) (b : Edge) → QuietStep wake a x b → Steps a (x ∷ []) b
+quiet_steps wake a x b q = steps_from a q.0 b (x ∷ []) (passes_same a q.0 q.1.0) (call_steps wake q.0 x b q.1.1.0)
 
 -- Looks at the clients' sockets.
 requests_miss : (hears : Bool) (calls : List Call) (gave : Step) (buffer : List ℕ) → HearsRequests hears calls gave buffer → MissesAll calls
@@ -294,7 +305,7 @@ seat_steps (Some conn) index seat became old new next heard closed calls id gave
 
 seats_steps : (index : ℕ) (old new : List Seat) (next : ℕ) (calls : List Call) (id : ℕ) (gave : Step) (buffer : List ℕ) → HearsSeat index old calls id gave buffer new → Moves old next calls no_bytes new next
 seats_steps index old new next calls id gave buffer h = elim h [
-  | inl none ↦ rests (all_as calls [] none.0 (λ s p. tt)) none.1.1 refl (λ i seat conn there is. refl)
+  | inl none ↦ rests (all_as calls [] none.0 (λ s p. tt)) none.1.1.0 refl (λ i seat conn there is. refl)
   | inr there ↦ let l = there.1 in seat_steps there.0.conn index there.0 l.after old new next l.heard l.closed calls id gave buffer l.there refl l.looks l.whole l.goes
 ]
 
@@ -544,11 +555,12 @@ seat_closes None number index seat calls old new next is there has c e = cc
 seat_closes (Some conn) number index seat calls old new next is there has c e = shut_step index seat conn old new next [] calls calls there is (flushes true (seat_socket index) seat.backlog None) c refl e
 
 pub makes_steps : (x : Action) (a : Edge) (calls : List Call) (b : Edge) → Makes x a calls b → StepsBy a calls (λ n. reply_to n x) b
-makes_steps (reply addr port bytes) a calls b m = same_steps a b calls (replies_miss addr port bytes a.hears calls m.0) m.1
+makes_steps (reply addr port bytes) a calls b m =
+    rest_steps a b calls (replies_miss addr port bytes a.hears calls m.0) (ap (λ (x : Edge). x.seats) m.1) (ap (λ (x : Edge). x.next_conn) m.1)
 makes_steps (conn_reply conn bytes) a calls b m =
     subst (λ (n : ℕ). Moves a.seats a.next_conn calls (given_to conn bytes) b.seats n) (sym (ap (λ (x : Edge). x.next_conn) m.1)) (elim m.0 [
-      | inl none ↦ rests (all_as calls [] none.1.0 (λ s p. tt)) none.1.1 refl (λ index seat c there is. given_other conn bytes c.number (not_it conn seat.conn c is (none_at conn a.seats index seat none.0 there)))
-      | inr there ↦ seat_puts there.1.conn conn there.0 there.1 bytes calls there.2 a.seats b.seats a.next_conn refl there.3.0.0 there.3.0.1 there.3.1.0 there.3.1.1
+      | inl none ↦ rests (all_as calls [] none.1.0 (λ s p. tt)) none.1.1.0 refl (λ index seat c there is. given_other conn bytes c.number (not_it conn seat.conn c is (none_at conn a.seats index seat none.0 there)))
+      | inr there ↦ seat_puts there.1.conn conn there.0 there.1 bytes calls there.2 a.seats b.seats a.next_conn refl there.3.0.0 there.3.0.1 there.3.1.0 there.3.1.1.0
     ])
 makes_steps (conn_close conn) a calls b m =
     subst (λ (n : ℕ). Moves a.seats a.next_conn calls no_bytes b.seats n) (sym (ap (λ (x : Edge). x.next_conn) m.1)) (elim m.0 [

@@ -25,12 +25,15 @@ use Rattle.slab.specs.Slab.{Slab}
 use Rattle.dc_sock.specs.ClientCalls.{HearsRequests, AcceptGives, Accepts, HearsSeat, GoesSeat, Replies, seat_socket}
 use Rattle.dc_system.specs.declared.answers.Part.{Part}
 use Rattle.dc_system.specs.declared.answers.Part.TheVariants as part
-use Rattle.dc_sock.specs.Edge.{Edge, QuietAccept, QuietRead, QuietCall, Quiet, Looks, Hears, Fails}
+use Rattle.dc_sock.specs.Edge.{Edge, QuietAccept, QuietRead, QuietCall, QuietStep, Quiet, Looks, Hears, Fails, NoneCame}
+use Rattle.dc_sock.proofs.RoundLemmas.{passes_same}
 use Rattle.dc_sock.specs.LinkCalls.{udp_calls, close_calls, write_calls, took_all, HearsWay}
 use Rattle.dc_sock.specs.Links.{Goes, LooksAt, link_socket}
+use Rattle.dc_sock.specs.Place.{place_at}
 use Rattle.dc_sock.specs.Log.{Gathered, PrintsText, PutsLineIf, LinesIf}
 use Rattle.dc_sock.specs.SeatCalls.{PutsConn, PutsSeat, ReadsBehind, LooksAtConn, LooksAtSeat}
-use Rattle.dc_sock.specs.World.{Shown, Makes, Gave, Explained}
+use Rattle.dc_sock.specs.Passed.{Passed, exchanged, none_came, exchanges_of}
+use Rattle.dc_sock.specs.World.{Shown, Makes, Gave, Accounted, Explained}
 use Rattle.dc_sock.specs.Promises.{sent_by, sent_to, reply_of, GoesOnListening, SendsReplies}
 
 sent_append : (xs ys : List Call) → sent_to (xs ++ ys) ≡ sent_to xs ++ sent_to ys
@@ -74,10 +77,15 @@ call_silent wake a (call.ready answer) b p = (refl, ap (λ (e : Edge). e.hears) 
 call_silent wake a (call.now answer) b p = (refl, ap (λ (e : Edge). e.hears) p)
 call_silent wake a (call.print bytes answer) b p = (refl, ap (λ (e : Edge). e.hears) p.1)
 
+step_silent : (wake : Option ℕ) (a : Edge) (x : Call) (b : Edge) → QuietStep wake a x b → (sent_by x ≡ []) × (b.hears ≡ a.hears)
+step_silent wake a x b q =
+    let one = call_silent wake q.0 x b q.1.1.0 in
+    (one.0, one.1 ∙ ap (λ (e : Edge). e.hears) (passes_same a q.0 q.1.0))
+
 quiet_silent : (wake : Option ℕ) (a : Edge) (xs : List Call) (b : Edge) → Quiet wake a xs b → (sent_to xs ≡ []) × (b.hears ≡ a.hears)
-quiet_silent wake a [] b q = (refl, ap (λ (e : Edge). e.hears) q)
+quiet_silent wake a [] b q = (refl, ap (λ (e : Edge). e.hears) (passes_same a b q))
 quiet_silent wake a (x ∷ xs) b q =
-    let one = call_silent wake a x q.0 q.1.0 in
+    let one = step_silent wake a x q.0 q.1.0 in
     let rest = quiet_silent wake q.0 xs b q.1.1 in
     (ap (λ l. l ++ sent_to xs) one.0 ∙ rest.0, rest.1 ∙ one.1)
 
@@ -162,13 +170,16 @@ heard_silent : (wake : Option ℕ) (e : ModelEvent) (a : Edge) (calls : List Cal
 heard_silent wake e a calls b h =
     let q = quiet_silent wake a h.before h.between h.quiet in
     let l : (sent_to h.last ≡ []) × (h.after.hears ≡ h.between.hears) = elim h.heard [
-      | inl found ↦ looks_silent found.source h.between h.last found.id found.gave found.buffer h.after found.looks
-      | inr tick ↦ (ap sent_to tick.none, ap (λ (x : Edge). x.hears) tick.same)
+      | inl found ↦ looks_silent (place_at found.token) h.between h.last found.id found.gave found.buffer h.after found.looks
+      | inr tick ↦ (ap sent_to tick.none, ap (λ (x : Edge). x.hears) tick.left)
     ] in
     (ap sent_to h.whole ∙ none_both h.before h.last q.0 l.0, ap (λ (x : Edge). x.hears) h.left ∙ (l.1 ∙ q.1))
 
 fails_silent : (wake : Option ℕ) (a : Edge) (calls : List Call) (b : Edge) → Fails wake a calls b → (sent_to calls ≡ []) × (b.hears ≡ a.hears)
 fails_silent wake a calls b f = let q = quiet_silent wake a calls f.between f.quiet in (q.0, ap (λ (x : Edge). x.hears) f.left ∙ q.1)
+
+none_silent : (a : Edge) (calls : List Call) (b : Edge) → NoneCame a calls b → (sent_to calls ≡ []) × (b.hears ≡ a.hears)
+none_silent a calls b n = let q = quiet_silent None a calls n.between n.quiet in (q.0, ap (λ (x : Edge). x.hears) n.left ∙ q.1)
 
 gave_silent : (wake : Option ℕ) (said : Answer) (a : Edge) (calls : List Call) (b : Edge) → Gave wake said a calls b → (sent_to calls ≡ []) × (b.hears ≡ a.hears)
 gave_silent wake (history.gave e) a calls b g = heard_silent wake e a calls b g
@@ -270,17 +281,30 @@ makes_replies (link_close link) a calls b h m = (
 makes_replies (line text) a calls b h m = (lines_silent _ text a.log calls b.log m.0, ap (λ (e : Edge). e.hears) m.1)
 
 module _ {S : Type 0} (called : S → List Call → S → Type 0) (none : (a : S) → called a [] a) (both : (a b c : S) (xs ys : List Call) → called a xs b → called b ys c → called a (xs ++ ys) c) where
-  pub sends_replies : (a b : Shown S) (xs : List Exchange) → a.edge.hears ≡ true → GoesOnListening xs → Explained called a xs b → SendsReplies called a xs b
-  sends_replies a b [] h l p = ([], (subst (λ (w : Shown S). called a.system [] w.system) (sym p) (none a.system), refl))
-  sends_replies a b (did x ∷ xs) h l p =
+  sends : (a b : Shown S) (xs : List Passed) → a.edge.hears ≡ true → GoesOnListening (exchanges_of xs) → Accounted called a xs b → SendsReplies called a (exchanges_of xs) b
+  sends a b [] h l p = ([], (subst (λ (w : Shown S). called a.system [] w.system) (sym p) (none a.system), refl))
+  sends a b (exchanged (did x) ∷ xs) h l p =
       let one = p.1.0 in
       let made = makes_replies x a.edge one.0 p.0.edge h one.1.1.0 in
-      let rest = sends_replies p.0 b xs (made.1 ∙ h) l p.1.1 in
+      let rest = sends p.0 b xs (made.1 ∙ h) l p.1.1 in
       (one.0 ++ rest.0, (both _ _ _ _ _ one.1.0 rest.1.0, sent_append one.0 rest.0 ∙ (ap (λ m. m ++ sent_to rest.0) made.0 ∙ ap (λ m. reply_of x ++ m) rest.1.1)))
-  sends_replies a b (gathered e ∷ xs) h l p = absurd p.1.0.1.1
-  sends_replies a b (asked wake said ∷ xs) h l p =
+  sends a b (exchanged (gathered e) ∷ xs) h l p =
+      let one = p.1.0 in
+      let gave = heard_silent None e a.edge one.0 p.0.edge one.1.1.0.0 in
+      let rest = sends p.0 b xs (gave.1 ∙ h) l p.1.1 in
+      (one.0 ++ rest.0, (both _ _ _ _ _ one.1.0 rest.1.0, sent_append one.0 rest.0 ∙ (ap (λ m. m ++ sent_to rest.0) gave.0 ∙ rest.1.1)))
+  sends a b (exchanged (asked wake said) ∷ xs) h l p =
       let one = p.1.0 in
       let gave = gave_silent wake said a.edge one.0 p.0.edge one.1.1.0 in
-      let rest = sends_replies p.0 b xs (gave.1 ∙ h) l p.1.1 in
+      let rest = sends p.0 b xs (gave.1 ∙ h) l p.1.1 in
       (one.0 ++ rest.0, (both _ _ _ _ _ one.1.0 rest.1.0, sent_append one.0 rest.0 ∙ (ap (λ m. m ++ sent_to rest.0) gave.0 ∙ rest.1.1)))
-  sends_replies a b (listened addr send_from ok ∷ xs) h l p = absurd l
+  sends a b (exchanged (listened addr send_from ok) ∷ xs) h l p = absurd l
+  sends a b (none_came ∷ xs) h l p =
+      let one = p.1.0 in
+      let gave = none_silent a.edge one.0 p.0.edge one.1.1.0 in
+      let rest = sends p.0 b xs (gave.1 ∙ h) l p.1.1 in
+      (one.0 ++ rest.0, (both _ _ _ _ _ one.1.0 rest.1.0, sent_append one.0 rest.0 ∙ (ap (λ m. m ++ sent_to rest.0) gave.0 ∙ rest.1.1)))
+
+  pub sends_replies : (a b : Shown S) (xs : List Exchange) → a.edge.hears ≡ true → GoesOnListening xs → Explained called a xs b → SendsReplies called a xs b
+  sends_replies a b xs h l p =
+      subst (λ (x : List Exchange). SendsReplies called a x b) p.1.0 (sends a b p.0 h (subst GoesOnListening (sym p.1.0) l) p.1.1)

@@ -36,14 +36,17 @@ use Rattle.dc_sock.specs.Found.{plain_found, event_found}
 use Rattle.dc_sock.specs.Asked.{is_settled}
 use Rattle.dc_sock.specs.declared.asked.Asked.{Asked}
 use Rattle.dc_sock.specs.ClientCalls.{Hearing, refused, deaf, both, listen_calls, hears_after, request_step, HearsRequests, AcceptGives, Accepts, HearsSeat, GoesSeat, Replies, seat_socket}
-use Rattle.dc_sock.specs.Edge.{Edge, QuietAccept, QuietRead, QuietCall, Quiet, Looks, IsFound, Hears}
+use Rattle.dc_sock.specs.Edge.{Edge, QuietAccept, QuietRead, QuietCall, QuietStep, Quiet, Looks, IsFound, Hears, NoneCame}
+use Rattle.dc_sock.specs.Passed.{Passed, exchanged, none_came, exchanges_of}
+use Rattle.dc_sock.specs.Place.{place_at}
+use Rattle.dc_sock.proofs.RoundLemmas.{passes_same}
 use Rattle.dc_sock.specs.declared.link.Opening.{Opening}
 use Rattle.dc_sock.specs.declared.link.Opening.TheVariants as opening
 use Rattle.dc_sock.specs.LinkCalls.{udp_calls, datagram_step, standing_step, part_step, missing_step, close_calls, write_calls, took_all, HearsWay}
 use Rattle.dc_sock.specs.Links.{Goes, LooksAt, link_socket}
 use Rattle.dc_sock.specs.Log.{Gathered, PrintsText, PutsLineIf, LinesIf}
 use Rattle.dc_sock.specs.SeatCalls.{PutsConn, PutsSeat, conn_step, ReadsBehind, LooksAtConn, LooksAtSeat}
-use Rattle.dc_sock.specs.World.{Shown, Makes, Gave, Explained}
+use Rattle.dc_sock.specs.World.{Shown, Makes, Gave, Accounted, Explained}
 use Rattle.dc_sock.specs.Service.{NoLetter, NotTaken, IsPlain, ArePlain, ComesBy, Came, Said, Done, Serves, printed_by, printed, IsPrinted, line_by, lines_in, PrintsLines, RunsService}
 use Rattle.dc_sock.specs.Streams.{joined}
 use Rattle.dc_sock.proofs.AnswerLemmas.{parts_of, all_answered}
@@ -128,7 +131,7 @@ read_stays a s (part.Bytes len) b p = absurd p
 read_stays a s part.End b p = (ap outside p.3.1.1.1.1, ap (λ (e : Edge). e.log.text) p.3.1.1.1.1)
 read_stays a s part.Failed b p = absurd p
 
-by_same : (a b : Edge) → b ≡ a → (outside b ≡ outside a) × (b.log.text ≡ a.log.text)
+by_same : (a b : Edge) → b ≡ record a { round = b.round } → (outside b ≡ outside a) × (b.log.text ≡ a.log.text)
 by_same a b p = (ap outside p, ap (λ (e : Edge). e.log.text) p)
 
 call_stays : (wake : Option ℕ) (a : Edge) (x : Call) (b : Edge) → QuietCall wake a x b → (outside b ≡ outside a) × (printed_by x ++ b.log.text ≡ a.log.text)
@@ -149,12 +152,18 @@ call_stays wake a (call.ready answer) b p = by_same a b p
 call_stays wake a (call.now answer) b p = (ap outside p, ap (λ (e : Edge). e.log.text) p)
 call_stays wake a (call.print bytes answer) b p = (ap outside p.1, ap (λ (e : Edge). bytes ++ e.log.text) p.1 ∙ (append-nil bytes ∙ p.0))
 
+step_stays : (wake : Option ℕ) (a : Edge) (x : Call) (b : Edge) → QuietStep wake a x b → (outside b ≡ outside a) × (printed_by x ++ b.log.text ≡ a.log.text)
+step_stays wake a x b q =
+    let one = call_stays wake q.0 x b q.1.1.0 in
+    let same = passes_same a q.0 q.1.0 in
+    (one.0 ∙ ap outside same, one.1 ∙ ap (λ (e : Edge). e.log.text) same)
+
 quiet_runs : (wake : Option ℕ) (a : Edge) (xs : List Call) (b : Edge) → Quiet wake a xs b → ArePlain xs × Stays a xs b
-quiet_runs wake a [] b q = (tt, by_same a b q)
+quiet_runs wake a [] b q = (tt, by_same a b (passes_same a b q))
 quiet_runs wake a (x ∷ xs) b q =
-    let one = call_stays wake a x q.0 q.1.0 in
+    let one = step_stays wake a x q.0 q.1.0 in
     let rest = quiet_runs wake q.0 xs b q.1.1 in
-    ((call_plain wake a x q.0 q.1.0, rest.0), (rest.1.0 ∙ one.0, append_assoc (printed_by x) (printed xs) b.log.text ∙ (ap (λ l. printed_by x ++ l) rest.1.1 ∙ one.1)))
+    ((call_plain wake q.1.0.0 x q.0 q.1.0.1.1.0, rest.0), (rest.1.0 ∙ one.0, append_assoc (printed_by x) (printed xs) b.log.text ∙ (ap (λ l. printed_by x ++ l) rest.1.1 ∙ one.1)))
 
 -- What was found comes by these calls, which printed nothing.
 abbrev Comes : (moment id : ℕ) → Found → (buffer : List ℕ) → List Call → Type 0
@@ -304,6 +313,7 @@ stream_comes part.Failed key link server old new heard closed calls gave buffer 
 
 missing_plainly : (cause : NoSocket) (gave : Step) (found : Found) → gave ≡ missing_step cause → IsFound gave found → Plainly found
 missing_plainly no_socket.PortTaken gave found g f = subst Plainly (last_as _ found gave g f) (λ m i b c p. (still_plain c p, still_silent c p))
+missing_plainly no_socket.Full gave found g f = subst Plainly (last_as _ found gave g f) (λ m i b c p. (still_plain c p, still_silent c p))
 missing_plainly no_socket.Failed gave found g f = subst Plainly (last_as _ found gave g f) (λ m i b c p. (still_plain c p, still_silent c p))
 
 link_comes : (way : Way) (key : ℕ) (link : Link) (server : List ℕ) (old new : Slab Link) (heard closed calls : List Call) (gave : Step) (buffer : List ℕ) (moment id : ℕ) (found : Found) → HearsWay (link_socket key) server way heard gave buffer → Goes gave key link old closed new → calls ≡ heard ++ closed → IsFound gave found → Comes moment id found buffer calls
@@ -333,9 +343,9 @@ heard_comes wake e a calls b h =
     let q = quiet_runs wake a h.before h.between h.quiet in
     let l : ComesBy e.kind e h.last × ((printed h.last ≡ []) × ((outside h.after ≡ outside h.between) × (h.after.log.text ≡ h.between.log.text))) = elim h.heard [
       | inl found ↦
-          let c = looks_come found.source h.between h.last found.id found.gave found.buffer h.after found.moment found.found found.looks found.one in
+          let c = looks_come (place_at found.token) h.between h.last found.id found.gave found.buffer h.after found.moment found.found found.looks found.one in
           (subst (λ (x : ModelEvent). ComesBy x.kind x h.last) (sym found.event) c.0.0, (c.0.1, c.1))
-      | inr tick ↦ (subst (λ (x : ModelEvent). ComesBy x.kind x h.last) (sym tick.event) (subst ArePlain (sym tick.none) tt), (ap printed tick.none, by_same h.between h.after tick.same))
+      | inr tick ↦ (subst (λ (x : ModelEvent). ComesBy x.kind x h.last) (sym tick.event) (subst ArePlain (sym tick.none) tt), (ap printed tick.none, (ap outside tick.left, ap (λ (x : Edge). x.log.text) tick.left)))
     ] in
     let text : b.log.text ≡ h.between.log.text = ap (λ (x : Edge). x.log.text) h.left ∙ l.1.1.1 in
     let all : printed calls ≡ printed h.before = ap printed h.whole ∙ (printed_append h.before h.last ∙ (ap (λ t. printed h.before ++ t) l.1.0 ∙ append-nil (printed h.before))) in (
@@ -350,6 +360,11 @@ said_comes wake history.failed a calls b g =
     let q = quiet_runs wake a calls g.between g.quiet in
     (q.0, (ap outside g.left ∙ q.1.0, ap (λ (x : Edge). printed calls ++ x.log.text) g.left ∙ q.1.1))
 said_comes wake (history.bad number) a calls b g = absurd g
+
+none_comes : (a : Edge) (calls : List Call) (b : Edge) → NoneCame a calls b → ArePlain calls × Stays a calls b
+none_comes a calls b g =
+    let q = quiet_runs None a calls g.between g.quiet in
+    (q.0, (ap outside g.left ∙ q.1.0, ap (λ (x : Edge). printed calls ++ x.log.text) g.left ∙ q.1.1))
 
 -- Actions.
 rest_still : (all : Bool) (socket : ℕ) → AreStill (if all then [] else call.close socket ∷ [])
@@ -508,14 +523,14 @@ silent_then before between after rest mine others p q w =
 
 module _ {S : Type 0} (called : S → List Call → S → Type 0) (none : (a : S) → called a [] a) (join : (a b c : S) (xs ys : List Call) → called a xs b → called b ys c → called a (xs ++ ys) c) where
   -- The calls of each exchange were made, one after the other.
-  parts_called : (a b : Shown S) (xs : List Exchange) (p : Explained called a xs b) → called a.system (joined (parts_of called a b xs p)) b.system
+  parts_called : (a b : Shown S) (xs : List Passed) (p : Accounted called a xs b) → called a.system (joined (parts_of called a b xs p)) b.system
   parts_called a b [] p = subst (λ (w : Shown S). called a.system [] w.system) (sym p) (none a.system)
   parts_called a b (x ∷ xs) p = join _ _ _ _ _ p.1.0.1.0 (parts_called p.0 b xs p.1.1)
 
   -- They serve it.
-  parts_serve : (a b : Shown S) (xs : List Exchange) (p : Explained called a xs b) → Serves a.port a.edge.hears a.edge.from xs (parts_of called a b xs p)
+  parts_serve : (a b : Shown S) (xs : List Passed) (p : Accounted called a xs b) → Serves a.port a.edge.hears a.edge.from xs (parts_of called a b xs p)
   parts_serve a b [] p = refl
-  parts_serve a b (listened addr send_from ok ∷ xs) p =
+  parts_serve a b (exchanged (listened addr send_from ok) ∷ xs) p =
       let l = p.1.0.1.1.0 in
       let rest = parts_of called p.0 b xs p.1.1 in
       let port : p.0.port ≡ a.port = ap (λ (w : Shown S). w.port) p.1.0.1.1.1 in
@@ -532,8 +547,23 @@ module _ {S : Type 0} (called : S → List Call → S → Type 0) (none : (a : S
           ),
         ),
       )
-  parts_serve a b (gathered e ∷ xs) p = absurd p.1.0.1.1
-  parts_serve a b (asked wake said ∷ xs) p =
+  parts_serve a b (exchanged (gathered e) ∷ xs) p =
+      let s = heard_comes None e a.edge p.1.0.0 p.0.edge p.1.0.1.1.0.0 in
+      let rest = parts_of called p.0 b xs p.1.1 in
+      let port : p.0.port ≡ a.port = ap (λ (w : Shown S). w.port) p.1.0.1.1.1 in (
+        (s.0, p.1.0.1.1.0.1),
+        subst (λ (n : ℕ). Serves n a.edge.hears a.edge.from xs rest) port
+            (subst (λ (o : Bool × List ℕ). Serves p.0.port o.0 o.1 xs rest) s.1.0 (parts_serve p.0 b xs p.1.1)),
+      )
+  parts_serve a b (none_came ∷ xs) p =
+      let s = none_comes a.edge p.1.0.0 p.0.edge p.1.0.1.1.0 in
+      let rest = parts_of called p.0 b xs p.1.1 in
+      let port : p.0.port ≡ a.port = ap (λ (w : Shown S). w.port) p.1.0.1.1.1 in (
+        (s.0, p.1.0.1.1.0.at_hand),
+        subst (λ (n : ℕ). Serves n a.edge.hears a.edge.from xs rest) port
+            (subst (λ (o : Bool × List ℕ). Serves p.0.port o.0 o.1 xs rest) s.1.0 (parts_serve p.0 b xs p.1.1)),
+      )
+  parts_serve a b (exchanged (asked wake said) ∷ xs) p =
       let s = said_comes wake said a.edge p.1.0.0 p.0.edge p.1.0.1.1.0 in
       let rest = parts_of called p.0 b xs p.1.1 in
       let port : p.0.port ≡ a.port = ap (λ (w : Shown S). w.port) p.1.0.1.1.1 in (
@@ -541,7 +571,7 @@ module _ {S : Type 0} (called : S → List Call → S → Type 0) (none : (a : S
         subst (λ (n : ℕ). Serves n a.edge.hears a.edge.from xs rest) port
             (subst (λ (o : Bool × List ℕ). Serves p.0.port o.0 o.1 xs rest) s.1.0 (parts_serve p.0 b xs p.1.1)),
       )
-  parts_serve a b (did x ∷ xs) p =
+  parts_serve a b (exchanged (did x) ∷ xs) p =
       let d = makes_does x a.edge p.1.0.0 p.0.edge p.1.0.1.1.0 in
       let rest = parts_of called p.0 b xs p.1.1 in
       let port : p.0.port ≡ a.port = ap (λ (w : Shown S). w.port) p.1.0.1.1.1 in (
@@ -551,20 +581,41 @@ module _ {S : Type 0} (called : S → List Call → S → Type 0) (none : (a : S
       )
 
   -- They print its lines.
-  parts_print : (a b : Shown S) (xs : List Exchange) (p : Explained called a xs b) → PrintsLines a.edge.log.text b.edge.log.text xs (joined (parts_of called a b xs p))
+  parts_print : (a b : Shown S) (xs : List Passed) (p : Accounted called a xs b) → PrintsLines a.edge.log.text b.edge.log.text (exchanges_of xs) (joined (parts_of called a b xs p))
   parts_print a b [] p = λ w. ap (λ (x : Shown S). x.edge.log.text) p ∙ sym (append-nil a.edge.log.text)
-  parts_print a b (listened addr send_from ok ∷ xs) p =
+  parts_print a b (exchanged (listened addr send_from ok) ∷ xs) p =
       let l = p.1.0.1.1.0 in
       let text : printed p.1.0.0 ++ p.0.edge.log.text ≡ a.edge.log.text = ap (λ cs. printed cs ++ p.0.edge.log.text) l.0.1.0 ∙ (ap (λ t. t ++ p.0.edge.log.text) (hearing_silent l.0.0 addr a.port) ∙ ap (λ (e : Edge). e.log.text) l.1) in
-      λ w. silent_then a.edge.log.text p.0.edge.log.text b.edge.log.text (lines_in xs) p.1.0.0 (joined (parts_of called p.0 b xs p.1.1)) text (parts_print p.0 b xs p.1.1) w
-  parts_print a b (gathered e ∷ xs) p = absurd p.1.0.1.1
-  parts_print a b (asked wake said ∷ xs) p =
+      λ w. silent_then a.edge.log.text p.0.edge.log.text b.edge.log.text (lines_in (exchanges_of xs)) p.1.0.0 (joined (parts_of called p.0 b xs p.1.1)) text (parts_print p.0 b xs p.1.1) w
+  parts_print a b (exchanged (gathered e) ∷ xs) p =
+      let s = heard_comes None e a.edge p.1.0.0 p.0.edge p.1.0.1.1.0.0 in
+      λ w. silent_then a.edge.log.text p.0.edge.log.text b.edge.log.text (lines_in (exchanges_of xs)) p.1.0.0 (joined (parts_of called p.0 b xs p.1.1)) s.1.1 (parts_print p.0 b xs p.1.1) w
+  parts_print a b (none_came ∷ xs) p =
+      let s = none_comes a.edge p.1.0.0 p.0.edge p.1.0.1.1.0 in
+      λ w. silent_then a.edge.log.text p.0.edge.log.text b.edge.log.text (lines_in (exchanges_of xs)) p.1.0.0 (joined (parts_of called p.0 b xs p.1.1)) s.1.1 (parts_print p.0 b xs p.1.1) w
+  parts_print a b (exchanged (asked wake said) ∷ xs) p =
       let s = said_comes wake said a.edge p.1.0.0 p.0.edge p.1.0.1.1.0 in
-      λ w. silent_then a.edge.log.text p.0.edge.log.text b.edge.log.text (lines_in xs) p.1.0.0 (joined (parts_of called p.0 b xs p.1.1)) s.1.1 (parts_print p.0 b xs p.1.1) w
-  parts_print a b (did x ∷ xs) p =
+      λ w. silent_then a.edge.log.text p.0.edge.log.text b.edge.log.text (lines_in (exchanges_of xs)) p.1.0.0 (joined (parts_of called p.0 b xs p.1.1)) s.1.1 (parts_print p.0 b xs p.1.1) w
+  parts_print a b (exchanged (did x) ∷ xs) p =
       let d = makes_does x a.edge p.1.0.0 p.0.edge p.1.0.1.1.0 in
-      λ w. prints_then a.edge.log.text p.0.edge.log.text b.edge.log.text (line_by x) (lines_in xs) p.1.0.0 (joined (parts_of called p.0 b xs p.1.1)) d.1.1 (parts_print p.0 b xs p.1.1) w
+      λ w. prints_then a.edge.log.text p.0.edge.log.text b.edge.log.text (line_by x) (lines_in (exchanges_of xs)) p.1.0.0 (joined (parts_of called p.0 b xs p.1.1)) d.1.1 (parts_print p.0 b xs p.1.1) w
 
   pub runs_service : (a b : Shown S) (xs : List Exchange) → Explained called a xs b → RunsService called a xs b
   runs_service a b xs p =
-      (parts_of called a b xs p, (parts_called a b xs p, (parts_serve a b xs p, (parts_print a b xs p, λ o. all_answered called a b xs p o))))
+      let parts : List (List Call) = parts_of called a b p.0 p.1.1 in (
+        p.0,
+        parts,
+        (
+          p.1.0,
+          (
+            parts_called a b p.0 p.1.1,
+            (
+              parts_serve a b p.0 p.1.1,
+              (
+                subst (λ (x : List Exchange). PrintsLines a.edge.log.text b.edge.log.text x (joined parts)) p.1.0 (parts_print a b p.0 p.1.1),
+                λ o. all_answered called a b p.0 p.1.1 o,
+              ),
+            ),
+          ),
+        ),
+      )

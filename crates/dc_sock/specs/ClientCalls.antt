@@ -1,5 +1,5 @@
 -- The calls that are made for clients.
-use Rattle.std.specs.Prelude.{◌≡◌, ◌⊎◌, ℕ, Bool, true, false, List, [], ◌∷◌, ◌++◌, slice_get, slice_set, is_none}
+use Rattle.std.specs.Prelude.{◌≡◌, ◌⊎◌, ℕ, Bool, true, false, List, [], ◌∷◌, ◌++◌, ◌||◌, if◌then◌else◌, slice_get, slice_set, is_none}
 use Rattle.std.specs.List.{All}
 use Rattle.std.specs.declared.option.Option.{Option}
 use Rattle.std.specs.declared.option.Option.TheVariants.{None, Some}
@@ -15,7 +15,9 @@ use Rattle.dc_sock.specs.declared.found.Step.{Step}
 use Rattle.dc_sock.specs.declared.found.Step.TheVariants as step
 use Rattle.dc_sock.specs.declared.place.Place.TheVariants as place
 use Rattle.dc_sock.specs.Place.{token_at}
+use Rattle.dc_sock.specs.declared.seat.Conn.{Conn}
 use Rattle.dc_sock.specs.declared.seat.Seat.{Seat}
+use Rattle.dc_sock.specs.Ready.{Watched, mark_in}
 use Rattle.dc_sock.specs.Moment.{again_at}
 use Rattle.dc_sock.specs.SeatCalls.{holds_conn, new_seat, free_seat, PutsSeat, LooksAtSeat}
 
@@ -102,12 +104,20 @@ IsAt number index seat seats = (slice_get seats index ≡ Some seat) × (holds_c
 abbrev pub NoneHas : (number : ℕ) → List Seat → Type 0
 NoneHas number seats = All (λ (seat : Seat). holds_conn number seat.conn ≡ false) seats
 
+-- A connection that has failed, or that sends no more, is to be looked at, so that its end is told.
+abbrev pub is_over : Option Conn → Bool
+is_over None = false
+is_over (Some conn) = conn.failed || conn.ended
+
+abbrev pub marked_over : Seat → (socket : ℕ) → Watched → Watched
+marked_over seat socket w = if is_over seat.conn then mark_in w socket else w
+
 -- Bytes are given to the connection of this number, if there is one. One is closed.
-abbrev pub WritesSeat : (number : ℕ) (bytes : List ℕ) (old : List Seat) → List Call → (new : List Seat) → Type 0
-WritesSeat number bytes old calls new =
-    (NoneHas number old × ((calls ≡ []) × (new ≡ old)))
+abbrev pub WritesSeat : (number : ℕ) (bytes : List ℕ) (old : List Seat) (before : Watched) → List Call → (new : List Seat) (watch : Watched) → Type 0
+WritesSeat number bytes old before calls new watch =
+    (NoneHas number old × ((calls ≡ []) × ((new ≡ old) × (watch ≡ before))))
     ⊎ ((index : ℕ) × (seat : Seat) × (after : Seat) × (IsAt number index seat old × (PutsSeat seat.conn (seat_socket index) seat bytes calls after
-    × (new ≡ slice_set old index after))))
+    × ((new ≡ slice_set old index after) × (watch ≡ marked_over after (seat_socket index) before)))))
 
 abbrev pub ClosesSeat : (number : ℕ) (old : List Seat) → List Call → (new : List Seat) → Type 0
 ClosesSeat number old calls new =
@@ -132,4 +142,4 @@ pub record LooksSeat (index : ℕ) (seat : Seat) (old : List Seat) (calls : List
 
 abbrev pub HearsSeat : (index : ℕ) (old : List Seat) → List Call → (id : ℕ) → Step → (buffer : List ℕ) → (new : List Seat) → Type 0
 HearsSeat index old calls id gave buffer new =
-    ((calls ≡ []) × ((gave ≡ step.Nothing) × (new ≡ old))) ⊎ ((seat : Seat) × LooksSeat index seat old calls id gave buffer new)
+    ((calls ≡ []) × ((gave ≡ step.Nothing) × ((new ≡ old) × (slice_get old index ≡ None)))) ⊎ ((seat : Seat) × LooksSeat index seat old calls id gave buffer new)

@@ -4,7 +4,7 @@ use Rattle.std.specs.declared.option.Option.{Option}
 use Rattle.std.specs.declared.option.Option.TheVariants.{None, Some}
 use Rattle.dc_system.specs.Call.{Call, bind, connect, send, receive, begin, stands, read, write, close, letter_bytes, part_bytes}
 use Rattle.dc_system.specs.declared.answers.NoSocket.{NoSocket}
-use Rattle.dc_system.specs.declared.answers.NoSocket.TheVariants.{PortTaken, Failed}
+use Rattle.dc_system.specs.declared.answers.NoSocket.TheVariants.{PortTaken, Full, Failed}
 use Rattle.dc_system.specs.declared.answers.Bound.{Bound}
 use Rattle.dc_system.specs.declared.answers.Bound.TheVariants as bound
 use Rattle.dc_system.specs.declared.answers.Received.{Received}
@@ -88,6 +88,7 @@ HearsConnected socket server calls gave buffer =
 -- What a link gives that has no socket.
 abbrev pub missing_step : NoSocket → Step
 missing_step PortTaken = step.Last (plain_found kind.BindRefused)
+missing_step Full = step.Last (plain_found kind.LinkDown)
 missing_step Failed = step.Last (plain_found kind.LinkDown)
 
 abbrev pub HearsWay : (socket : ℕ) (server : List ℕ) → Way → List Call → Step → (buffer : List ℕ) → Type 0

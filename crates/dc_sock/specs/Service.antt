@@ -18,6 +18,8 @@ use Rattle.dc_system.specs.declared.answers.Received.TheVariants as received
 use Rattle.dc_sock.specs.declared.link.Opening.{Opening}
 use Rattle.dc_sock.specs.ClientCalls.{seat_socket, spare_socket, Hearing, listen_calls, hears_after, went_well}
 use Rattle.dc_sock.specs.LinkCalls.{udp_calls, tcp_calls}
+use Rattle.dc_sock.specs.Edge.{AreAtHand}
+use Rattle.dc_sock.specs.Passed.{Passed, exchanged, none_came, exchanges_of}
 use Rattle.dc_sock.specs.Streams.{joined, IsNumbered, AllAnswered}
 use Rattle.dc_sock.specs.World.{Shown}
 
@@ -101,16 +103,18 @@ Done (link_write link bytes) hears from calls = ArePlain calls
 Done (link_close link) hears from calls = ArePlain calls
 Done (line text) hears from calls = ArePlain calls
 
--- A whole run, exchange by exchange, in order, each with the calls that were made for it.
-abbrev pub Serves : (port : ℕ) (hears : Bool) (from : List ℕ) → List Exchange → (parts : List (List Call)) → Type 0
+-- A whole run, exchange by exchange, in order, each with the calls that were made for it. An event that had come already was handed out without
+-- a wait. Between exchanges one event more may have been asked for, where none had come: nothing is waited for, sent, taken or printed then.
+abbrev pub Serves : (port : ℕ) (hears : Bool) (from : List ℕ) → List Passed → (parts : List (List Call)) → Type 0
 Serves port hears from [] parts = parts ≡ []
 Serves port hears from (x ∷ xs) [] = ⊥
-Serves port hears from (listened addr send_from ok ∷ xs) (mine ∷ others) =
+Serves port hears from (exchanged (listened addr send_from ok) ∷ xs) (mine ∷ others) =
     (hearing : Hearing) × ((mine ≡ listen_calls addr port hearing) × ((ok ≡ went_well hearing)
     × Serves port (hears_after hears hearing) (if ok then send_from else from) xs others))
-Serves port hears from (asked wake answer ∷ xs) (mine ∷ others) = Said answer mine × Serves port hears from xs others
-Serves port hears from (gathered e ∷ xs) (mine ∷ others) = ⊥
-Serves port hears from (did action ∷ xs) (mine ∷ others) = Done action hears from mine × Serves port hears from xs others
+Serves port hears from (exchanged (asked wake answer) ∷ xs) (mine ∷ others) = Said answer mine × Serves port hears from xs others
+Serves port hears from (exchanged (gathered e) ∷ xs) (mine ∷ others) = (Came e mine × AreAtHand mine) × Serves port hears from xs others
+Serves port hears from (exchanged (did action) ∷ xs) (mine ∷ others) = Done action hears from mine × Serves port hears from xs others
+Serves port hears from (none_came ∷ xs) (mine ∷ others) = (ArePlain mine × AreAtHand mine) × Serves port hears from xs others
 
 -- What was printed, and whether each print went well.
 abbrev pub printed_by : Call → List ℕ
@@ -182,5 +186,6 @@ PrintsLines before after xs calls = AllByRecursion IsPrinted calls → printed c
 -- All of it, of the calls that were made in a run: what came and was done, what was printed, and what the clients' connections got.
 abbrev pub RunsService : {S : Type 0} → (S → List Call → S → Type 0) → Shown S → List Exchange → Shown S → Type 0
 RunsService {S} called a xs b =
-    (parts : List (List Call)) × (called a.system (joined parts) b.system × (Serves a.port a.edge.hears a.edge.from xs parts
-    × (PrintsLines a.edge.log.text b.edge.log.text xs (joined parts) × (IsNumbered a.edge.seats a.edge.next_conn → AllAnswered xs parts b.edge.seats))))
+    (passed : List Passed) × (parts : List (List Call)) × ((exchanges_of passed ≡ xs) × (called a.system (joined parts) b.system
+    × (Serves a.port a.edge.hears a.edge.from passed parts × (PrintsLines a.edge.log.text b.edge.log.text xs (joined parts)
+    × (IsNumbered a.edge.seats a.edge.next_conn → AllAnswered passed parts b.edge.seats)))))

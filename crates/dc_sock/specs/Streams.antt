@@ -11,6 +11,7 @@ use Rattle.dc_system.specs.Call as call
 use Rattle.dc_system.specs.declared.answers.Accepted.TheVariants as accepted
 use Rattle.dc_system.specs.declared.answers.Peer.{Peer}
 use Rattle.dc_sock.specs.ClientCalls.{seat_socket}
+use Rattle.dc_sock.specs.Passed.{Passed, exchanged, none_came, exchanges_of}
 use Rattle.dc_sock.specs.declared.seat.Conn.{Conn}
 use Rattle.dc_sock.specs.declared.seat.Seat.{Seat}
 
@@ -127,19 +128,24 @@ SaidIsAnswered (history.bad number) mine xs others seats = Unit {0}
 abbrev pub IsAnsweredBehind : Exchange → (mine : List Call) → List Exchange → (others : List Call) → List Seat → Type 0
 IsAnsweredBehind (listened addr send_from ok) mine xs others seats = Unit {0}
 IsAnsweredBehind (asked wake answer) mine xs others seats = SaidIsAnswered answer mine xs others seats
-IsAnsweredBehind (gathered e) mine xs others seats = Unit {0}
+IsAnsweredBehind (gathered e) mine xs others seats = UpIsAnswered e.kind e.id mine xs others seats
 IsAnsweredBehind (did action) mine xs others seats = Unit {0}
+
+-- Where one event more was asked for and none had come, no connection came.
+abbrev pub PassedIsAnswered : Passed → (mine : List Call) → List Exchange → (others : List Call) → List Seat → Type 0
+PassedIsAnswered (exchanged x) mine xs others seats = IsAnsweredBehind x mine xs others seats
+PassedIsAnswered none_came mine xs others seats = Unit {0}
 
 -- The calls of several parts of a run, one after the other.
 abbrev pub joined : List (List Call) → List Call
 joined [] = []
 joined (calls ∷ parts) = calls ++ joined parts
 
--- A whole run: the calls of each exchange, in order, and the places at its end.
-abbrev pub AllAnswered : List Exchange → (parts : List (List Call)) → List Seat → Type 0
+-- A whole run: the calls of each part, in order, and the places at its end.
+abbrev pub AllAnswered : List Passed → (parts : List (List Call)) → List Seat → Type 0
 AllAnswered [] parts seats = parts ≡ []
 AllAnswered (x ∷ xs) [] seats = ⊥
-AllAnswered (x ∷ xs) (mine ∷ others) seats = IsAnsweredBehind x mine xs (joined others) seats × AllAnswered xs others seats
+AllAnswered (x ∷ xs) (mine ∷ others) seats = PassedIsAnswered x mine (exchanges_of xs) (joined others) seats × AllAnswered xs others seats
 
 -- The numbers at the places: there are 24 places, and as long as there is a next number, the number of each connection is below it.
 pub record IsNumbered (seats : List Seat) (next : ℕ) : Type 0 where

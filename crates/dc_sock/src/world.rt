@@ -1,12 +1,14 @@
 //! The world of sockets.
-ghost use Rattle.std.specs.Prelude.{◌≡◌, ◌≤◌, List, [], ◌∷◌, IfOk, None, true, false, refl, is_ok, if◌then◌else◌};
+ghost use Rattle.std.specs.Prelude.{◌≡◌, List, [], ◌∷◌, IfOk, None, true, false, refl, is_ok, not, if◌then◌else◌};
 ghost use Rattle.dc_model.specs.Event.{IsEvent};
-ghost use Rattle.dc_event.specs.Answers.{count_heard, Warrants};
+ghost use Rattle.dc_event.specs.Answers.{count_heard, IfMore, Warrants};
 ghost use Rattle.dc_event.specs.Causes.{counted, count_by};
 ghost use Rattle.dc_event.specs.History.{listened, asked, answer_by, gathered_by};
 ghost use Rattle.dc_system.specs.Call.{Call};
 ghost use Rattle.dc_sock.specs.Edge.{edge_of};
-ghost use Rattle.dc_sock.specs.World.{Shown, IsFresh, Explained, Explained-both, ActedBy, ActedBy-both, ActedBy-faults, Gives, Gave, AnswerNumbers};
+ghost use Rattle.dc_sock.specs.Log.{PrintsAll};
+ghost use Rattle.dc_sock.specs.Passed.{exchanged, more_by};
+ghost use Rattle.dc_sock.specs.World.{Shown, IsFresh, Accounted, Explained, Explained-none, Explained-both, Explained-one, Explained-more, ActedBy, ActedBy-both, ActedBy-explained, ActedBy-faults, Gives, Gave, AnswerNumbers, MoreNumbers};
 
 use crate::clients::reply;
 use crate::sockets::{Sockets, Turn};
@@ -109,6 +111,22 @@ fn hear<R: Wait, S: System>(
 }
 
 impl<R, S: System> SocketWorld<R, S> {
+    /// The system that it calls.
+    pub fn system(&self) -> &S
+        ensures { result.now ≡ self.now.system }
+    {
+        &self.system
+    }
+
+    /// Writes what is left of the log, for a run that ends, and answers whether no call that prints failed.
+    pub fn finish(&mut self) -> bool
+        ensures printed { (calls : List Call) × (S.called self.old.system calls self.new.system × PrintsAll self.old.edge.log calls self.new.edge.log) }
+        ensures well { result ≡ not self.new.edge.log.failed }
+    {
+        self.sockets.log.write(&mut self.system);
+        !self.sockets.log.has_failed()
+    }
+
     /// Counts an answer where it is a fault.
     fn note(&mut self, answer: Heard)
         ensures note { self.new ≡ record self.old { faults = count_heard answer self.old.faults } }
@@ -120,7 +138,7 @@ impl<R, S: System> SocketWorld<R, S> {
 
     /// Listens for clients, and answers whether that went well.
     fn begin(&mut self, addr: [u8; 4], send_from: [u8; 4]) -> bool
-        ensures listened { Explained S.called self.old (listened addr send_from result ∷ []) self.new }
+        ensures listened { Accounted S.called self.old (exchanged (listened addr send_from result) ∷ []) self.new }
         ensures faults { self.new.faults ≡ (if result then self.old.faults else counted self.old.faults) }
     {
         if !self
@@ -138,7 +156,7 @@ impl<R, S: System> SocketWorld<R, S> {
     where
         R: Wait,
         ensures bounds { Gives result inbox.new }
-        ensures told { Explained S.called self.old (asked wake (answer_by result inbox.new) ∷ []) self.new }
+        ensures told { Accounted S.called self.old (exchanged (asked wake (answer_by result inbox.new)) ∷ []) self.new }
         ensures faults { self.new.faults ≡ count_heard result self.old.faults }
         ensures log { self.old.edge.log.failed ≡ true → result ≡ Heard.Failed }
         ensures numbers { AnswerNumbers result inbox.new self.old.edge.next_conn self.new.edge.next_conn }
@@ -146,6 +164,17 @@ impl<R, S: System> SocketWorld<R, S> {
         let answer = hear(&self.rt, &mut self.system, &mut self.sockets, wake, inbox);
         self.note(answer);
         answer
+    }
+
+    /// Gives one more event that has come already, if there is one.
+    fn gather(&mut self, inbox: &mut Inbox) -> bool
+        ensures bounds { IfMore result (IsEvent inbox.new) }
+        ensures passed { Accounted S.called self.old (more_by result inbox.new ∷ []) self.new }
+        ensures faults { self.new.faults ≡ self.old.faults }
+        ensures log { self.new.edge.log ≡ self.old.edge.log }
+        ensures numbers { MoreNumbers result inbox.new self.old.edge.next_conn self.new.edge.next_conn }
+    {
+        self.sockets.further(&mut self.system, inbox)
     }
 }
 
@@ -199,7 +228,10 @@ impl<R, S: System> Effects for SocketWorld<R, S> {
     }
 
     fn link_close(&mut self, link: u64) {
-        self.sockets.links.close(&mut self.system, link);
+        let sockets = &mut self.sockets;
+        sockets
+            .links
+            .close(&mut self.system, &mut sockets.watch, link);
     }
 
     fn line(&mut self, text: &[u8]) {
@@ -223,6 +255,7 @@ impl<R: Wait, S: System> World for SocketWorld<R, S> {
     ghost broken = { λ w number. ⊥ };
 
     fn listen(&mut self, addr: [u8; 4], send_from: [u8; 4]) -> Result<(), WorldFailed>
+        ensures passed { Accounted S.called self.old (exchanged (listened addr send_from (is_ok result)) ∷ []) self.new }
         ensures history { Explained S.called self.old (listened addr send_from (is_ok result) ∷ []) self.new }
         ensures count { self.new.faults ≡ count_by result self.old.faults }
     {
@@ -234,6 +267,7 @@ impl<R: Wait, S: System> World for SocketWorld<R, S> {
     }
 
     fn next(&mut self, wake: Option<u64>, inbox: &mut Inbox) -> Heard
+        ensures passed { Accounted S.called self.old (exchanged (asked wake (answer_by result inbox.new)) ∷ []) self.new }
         ensures history { Explained S.called self.old (asked wake (answer_by result inbox.new) ∷ []) self.new }
         ensures count { self.new.faults ≡ count_heard result self.old.faults }
         ensures warrant { Warrants result inbox.new ⊥ (λ number. ⊥) }
@@ -247,26 +281,26 @@ impl<R: Wait, S: System> World for SocketWorld<R, S> {
         self.faults
     }
 
-    ghost history_none = { λ a. refl };
+    ghost history_none = { Explained-none S.called };
 
     ghost history_both = { Explained-both S.called };
 
-    ghost acted_history = { λ a b xs p. p };
+    ghost acted_history = { ActedBy-explained S.called };
 
     ghost acted_faults = { ActedBy-faults S.called };
 }
 
 impl<R: Wait, S: System> BatchWorld for SocketWorld<R, S> {
-    /// Gives no further event: each is asked for. A look at a socket is a call of the system, also where it finds nothing, and each call
-    /// stands behind an exchange.
+    /// Gives an event of a source that the last wait told to be ready, if one has any, without waiting. After 64 looks it is time to wait, and
+    /// none is given.
     fn more(&mut self, inbox: &mut Inbox) -> bool
+        ensures passed { Accounted S.called self.old (more_by result inbox.new ∷ []) self.new }
         ensures history { Explained S.called self.old (gathered_by result inbox.new) self.new }
         ensures count { self.new.faults ≡ self.old.faults }
-        ensures none { result ≡ false }
-        ensures same { self.new ≡ self.old }
+        ensures bounds { IfMore result (IsEvent inbox.new) }
+        ensures log { self.new.edge.log ≡ self.old.edge.log }
+        ensures numbers { MoreNumbers result inbox.new self.old.edge.next_conn self.new.edge.next_conn }
     {
-        let _ = &self.faults;
-        let _ = &inbox;
-        false
+        self.gather(inbox)
     }
 }

@@ -8,6 +8,6 @@ returns-in-Connection-clause-accepts g c = (
   call.accept 1 250 (accepted.Connection c.in-Connection.field-0) ∷ call.close 250 ∷ [],
   (
     g.met.S.System.called_then _ _ _ _ _ (rw (c.token_of-listener.ensures, c.in-Connection.is) at c.accept.ensures) c.close.ensures,
-    (accepted.Connection c.in-Connection.field-0, inr (c.requires.full, (refl, (refl, (refl, refl))))),
+    ((accepted.Connection c.in-Connection.field-0, inr (c.requires.full, (refl, (refl, (refl, refl))))), rw c.token_of-listener.ensures at c.mark-in-Connection.ensures),
   ),
 )
