@@ -1,9 +1,11 @@
 //! The text of a whole packet.
 ghost use Rattle.std.specs.Prelude.{◌≡◌, ℕ, ◌≤◌, ◌++◌, ◌==◌, ◌&&◌, length, flat_map, codes, true, Some};
 ghost use Rattle.dc_model.specs.Message as model;
-ghost use Rattle.dc_event.specs.Answers.{count_put};
+ghost use Rattle.dc_event.specs.Answers.{well_put};
+ghost use Rattle.dc_event.specs.Causes.{Fares};
 ghost use Rattle.dc_packet.specs.Data.{body_of};
 ghost use Rattle.dc_packet.specs.Rows.{AreRowsOf, named_section};
+ghost use Rattle.dc_writer.specs.Fated.{Fated};
 ghost use Rattle.dc_writer.specs.Written.{Wrote, PutWhole};
 ghost use Rattle.dc_lookup.specs.Text.{text_if, rcode_text, header_text, section_word, host_word, data_byte, data_text, record_text, question_text, packet_text};
 ghost use Rattle.dc_show.specs.Lines.{line_of, counts_text};
@@ -24,7 +26,8 @@ const KIND_CNAME: u16 = 5;
 
 /// Writes a type and a name.
 fn write_question<K: Sink>(writer: &mut Writer, sink: &mut K, kind: u16, name: &Name)
-    ensures { Wrote K.gained K.faults writer.old sink.old (question_text kind name.now) writer.new sink.new }
+    ensures wrote { Wrote K.gained K.faults writer.old sink.old (question_text kind name.now) writer.new sink.new }
+    ensures fared { Fated K.gained K.refused K.faults writer.old.failed writer.new.failed sink.old sink.new }
 {
     writer.number(sink, kind.into());
     write_space_dot(writer, sink, name);
@@ -32,7 +35,8 @@ fn write_question<K: Sink>(writer: &mut Writer, sink: &mut K, kind: u16, name: &
 
 /// Writes a text, where so.
 fn write_if<K: Sink>(writer: &mut Writer, sink: &mut K, so: bool, text: &[u8])
-    ensures { Wrote K.gained K.faults writer.old sink.old (text_if so text.now) writer.new sink.new }
+    ensures wrote { Wrote K.gained K.faults writer.old sink.old (text_if so text.now) writer.new sink.new }
+    ensures fared { Fated K.gained K.refused K.faults writer.old.failed writer.new.failed sink.old sink.new }
 {
     if so {
         writer.put(sink, text);
@@ -41,7 +45,8 @@ fn write_if<K: Sink>(writer: &mut Writer, sink: &mut K, so: bool, text: &[u8])
 
 /// Writes what a response code says.
 fn write_rcode<K: Sink>(writer: &mut Writer, sink: &mut K, code: u16)
-    ensures { Wrote K.gained K.faults writer.old sink.old (rcode_text code) writer.new sink.new }
+    ensures wrote { Wrote K.gained K.faults writer.old sink.old (rcode_text code) writer.new sink.new }
+    ensures fared { Fated K.gained K.refused K.faults writer.old.failed writer.new.failed sink.old sink.new }
 {
     if code == 0 {
         writer.put(sink, b"noerror");
@@ -56,7 +61,8 @@ fn write_rcode<K: Sink>(writer: &mut Writer, sink: &mut K, code: u16)
 /// Writes the counts of the three sections, joined by `+`.
 fn write_counts<K: Sink>(writer: &mut Writer, sink: &mut K, packet: &[u8])
     requires { 12 ≤ length packet.now }
-    ensures { Wrote K.gained K.faults writer.old sink.old (counts_text packet.now) writer.new sink.new }
+    ensures wrote { Wrote K.gained K.faults writer.old sink.old (counts_text packet.now) writer.new sink.new }
+    ensures fared { Fated K.gained K.refused K.faults writer.old.failed writer.new.failed sink.old sink.new }
 {
     writer.number(sink, u16_at(packet, 6).into());
     writer.put(sink, b"+");
@@ -68,7 +74,8 @@ fn write_counts<K: Sink>(writer: &mut Writer, sink: &mut K, packet: &[u8])
 /// Writes the packet's length, the counts, the flags and the response code.
 fn write_header<K: Sink>(writer: &mut Writer, sink: &mut K, packet: &[u8])
     requires { 12 ≤ length packet.now }
-    ensures { Wrote K.gained K.faults writer.old sink.old (header_text packet.now) writer.new sink.new }
+    ensures wrote { Wrote K.gained K.faults writer.old sink.old (header_text packet.now) writer.new sink.new }
+    ensures fared { Fated K.gained K.refused K.faults writer.old.failed writer.new.failed sink.old sink.new }
 {
     let flags = u16_at(packet, 2);
     writer.number(sink, packet.len() as u64);
@@ -109,7 +116,8 @@ fn host_word(kind: u16) -> &'static [u8]
 
 /// Writes a byte of data: as it is, or as an octal number.
 fn write_byte<K: Sink>(writer: &mut Writer, sink: &mut K, byte: u8)
-    ensures { Wrote K.gained K.faults writer.old sink.old (data_byte byte) writer.new sink.new }
+    ensures wrote { Wrote K.gained K.faults writer.old sink.old (data_byte byte) writer.new sink.new }
+    ensures fared { Fated K.gained K.refused K.faults writer.old.failed writer.new.failed sink.old sink.new }
 {
     if (33..=126).contains(&byte) && byte != b'\\' {
         writer.put(sink, &[byte]);
@@ -120,7 +128,8 @@ fn write_byte<K: Sink>(writer: &mut Writer, sink: &mut K, byte: u8)
 
 /// Writes bytes of data.
 fn write_opaque<K: Sink>(writer: &mut Writer, sink: &mut K, bytes: &[u8])
-    ensures { Wrote K.gained K.faults writer.old sink.old (flat_map data_byte bytes.now) writer.new sink.new }
+    ensures wrote { Wrote K.gained K.faults writer.old sink.old (flat_map data_byte bytes.now) writer.new sink.new }
+    ensures fared { Fated K.gained K.refused K.faults writer.old.failed writer.new.failed sink.old sink.new }
 {
     for byte in bytes {
         write_byte(writer, sink, *byte);
@@ -137,7 +146,8 @@ fn is_address(kind: u16, class: u16, len: usize) -> bool
 
 /// Writes data that is bytes: an address of class IN, or the type and the bytes.
 fn write_bytes<K: Sink>(writer: &mut Writer, sink: &mut K, kind: u16, class: u16, bytes: &[u8])
-    ensures { Wrote K.gained K.faults writer.old sink.old (data_text kind class (model.bytes bytes.now)) writer.new sink.new }
+    ensures wrote { Wrote K.gained K.faults writer.old sink.old (data_text kind class (model.bytes bytes.now)) writer.new sink.new }
+    ensures fared { Fated K.gained K.refused K.faults writer.old.failed writer.new.failed sink.old sink.new }
 {
     if is_address(kind, class, bytes.len()) {
         writer.put(sink, b"A ");
@@ -158,7 +168,8 @@ fn write_soa<K: Sink>(
     numbers: &[u8],
 )
     requires { length numbers.now ≡ 20 }
-    ensures { (kind class : ℕ) → Wrote K.gained K.faults writer.old sink.old (data_text kind class (model.soa primary.now mailbox.now numbers.now)) writer.new sink.new }
+    ensures wrote { (kind class : ℕ) → Wrote K.gained K.faults writer.old sink.old (data_text kind class (model.soa primary.now mailbox.now numbers.now)) writer.new sink.new }
+    ensures fared { Fated K.gained K.refused K.faults writer.old.failed writer.new.failed sink.old sink.new }
 {
     writer.put(sink, b"SOA");
     write_space_dot(writer, sink, primary);
@@ -173,7 +184,8 @@ fn write_soa<K: Sink>(
 /// Writes data by its type and class.
 fn write_data<K: Sink>(writer: &mut Writer, sink: &mut K, kind: u16, class: u16, item: &Data<'_>)
     requires { model.HasNames (body_of item.now) }
-    ensures { Wrote K.gained K.faults writer.old sink.old (data_text kind class (body_of item.now)) writer.new sink.new }
+    ensures wrote { Wrote K.gained K.faults writer.old sink.old (data_text kind class (body_of item.now)) writer.new sink.new }
+    ensures fared { Fated K.gained K.refused K.faults writer.old.failed writer.new.failed sink.old sink.new }
 {
     match item {
         Data::Bytes(bytes) => write_bytes(writer, sink, kind, class, bytes),
@@ -195,7 +207,8 @@ fn write_data<K: Sink>(writer: &mut Writer, sink: &mut K, kind: u16, class: u16,
 /// Writes the line of a record.
 fn write_line<K: Sink>(writer: &mut Writer, sink: &mut K, rr: Rr, owner: &Name, item: &Data<'_>)
     requires { model.HasNames (body_of item.now) }
-    ensures { Wrote K.gained K.faults writer.old sink.old (line_of rr owner.now (body_of item.now)) writer.new sink.new }
+    ensures wrote { Wrote K.gained K.faults writer.old sink.old (line_of rr owner.now (body_of item.now)) writer.new sink.new }
+    ensures fared { Fated K.gained K.refused K.faults writer.old.failed writer.new.failed sink.old sink.new }
 {
     writer.put(sink, section_word(rr.section));
     write_dot(writer, sink, owner);
@@ -226,7 +239,8 @@ impl Part for Lines {
 fn write_asked<K: Sink>(writer: &mut Writer, sink: &mut K, packet: &[u8], message: &Message<'_>)
     requires packet { length packet.now ≤ 65535 }
     requires message { model.message_of packet.now ≡ Some message.now }
-    ensures { Wrote K.gained K.faults writer.old sink.old (header_text packet.now ++ codes "query: " ++ question_text message.now.question.kind message.now.question.name) writer.new sink.new }
+    ensures wrote { Wrote K.gained K.faults writer.old sink.old (header_text packet.now ++ codes "query: " ++ question_text message.now.question.kind message.now.question.name) writer.new sink.new }
+    ensures fared { Fated K.gained K.refused K.faults writer.old.failed writer.new.failed sink.old sink.new }
 {
     let Some(question) = question_of(packet) else {
         unreachable!();
@@ -248,7 +262,7 @@ pub fn show_packet<K: Sink>(
     requires packet { length packet.now ≤ 65535 }
     requires table { AreRowsOf packet.now table.now }
     ensures whole { (m : model.Message) → model.message_of packet.now ≡ Some m → PutWhole K.gained result sink.old (packet_text name.now qtype packet.now m) sink.new }
-    ensures count { K.faults sink.new ≡ count_put result (K.faults sink.old) }
+    ensures fares { Fares K.gained K.refused K.faults (well_put result) sink.old sink.new }
 {
     let message = Message::new(packet, table);
     let mut writer = Writer::new();

@@ -5,6 +5,7 @@ ghost use Rattle.dc_model.specs.Message as model;
 ghost use Rattle.dc_model.specs.Marks.{is_answer};
 ghost use Rattle.dc_packet.specs.Data.{body_of};
 ghost use Rattle.dc_packet.specs.Rows.{named_section};
+ghost use Rattle.dc_writer.specs.Fated.{Fated};
 ghost use Rattle.dc_writer.specs.Written.{Wrote};
 ghost use Rattle.dc_lookup.specs.Text.{address_datum, strings_in, strings, printed, mx_in};
 ghost use Rattle.dc_show.specs.Parts.{is_wanted_by, ip_part, txt_part, mx_part};
@@ -35,7 +36,8 @@ pub(crate) trait Part {
     fn write<K: Sink>(writer: &mut Writer, sink: &mut K, message: &Message<'_>, at: usize)
         requires at { at < length message.now.records }
         requires names { AllByRecursion (λ r. model.HasNames r.body) message.now.records }
-        ensures { (r : model.Record) → slice_get message.now.records at ≡ Some r → Wrote K.gained K.faults writer.old sink.old (text r) writer.new sink.new };
+        ensures wrote { (r : model.Record) → slice_get message.now.records at ≡ Some r → Wrote K.gained K.faults writer.old sink.old (text r) writer.new sink.new }
+        ensures fared { Fated K.gained K.refused K.faults writer.old.failed writer.new.failed sink.old sink.new };
 }
 
 /// Whether a record is an IN record of this type among the answers.
@@ -66,7 +68,8 @@ pub(crate) struct Exchanges;
 
 /// Writes data that is an address, with a space behind it.
 fn write_datum<K: Sink>(writer: &mut Writer, sink: &mut K, item: &Data<'_>)
-    ensures { Wrote K.gained K.faults writer.old sink.old (address_datum (body_of item.now)) writer.new sink.new }
+    ensures wrote { Wrote K.gained K.faults writer.old sink.old (address_datum (body_of item.now)) writer.new sink.new }
+    ensures fared { Fated K.gained K.refused K.faults writer.old.failed writer.new.failed sink.old sink.new }
 {
     if let Data::Bytes(bytes) = item {
         write_if_address(writer, sink, bytes);
@@ -75,7 +78,8 @@ fn write_datum<K: Sink>(writer: &mut Writer, sink: &mut K, item: &Data<'_>)
 
 /// Writes bytes, where they are an address, with a space behind it.
 fn write_if_address<K: Sink>(writer: &mut Writer, sink: &mut K, bytes: &[u8])
-    ensures { Wrote K.gained K.faults writer.old sink.old (address_datum (model.bytes bytes.now)) writer.new sink.new }
+    ensures wrote { Wrote K.gained K.faults writer.old sink.old (address_datum (model.bytes bytes.now)) writer.new sink.new }
+    ensures fared { Fated K.gained K.refused K.faults writer.old.failed writer.new.failed sink.old sink.new }
 {
     if bytes.len() == 4 {
         writer.address(sink, bytes);
@@ -92,8 +96,9 @@ fn printed(byte: u8) -> u8
 
 /// Writes a byte of TXT data, of whose string so many bytes are left: a length, or a byte of the string. Answers how many are left then.
 fn write_next<K: Sink>(writer: &mut Writer, sink: &mut K, left: u8, byte: u8) -> u8
-    ensures { (text : List ℕ) × Wrote K.gained K.faults writer.old sink.old text writer.new sink.new
+    ensures wrote { (text : List ℕ) × Wrote K.gained K.faults writer.old sink.old text writer.new sink.new
         × ((rest : List ℕ) → map printed (strings left (byte ∷ rest)) ≡ text ++ map printed (strings result rest)) }
+    ensures fared { Fated K.gained K.refused K.faults writer.old.failed writer.new.failed sink.old sink.new }
 {
     if left == 0 {
         return byte;
@@ -104,7 +109,8 @@ fn write_next<K: Sink>(writer: &mut Writer, sink: &mut K, left: u8, byte: u8) ->
 
 /// Writes the strings of TXT data.
 fn write_strings<K: Sink>(writer: &mut Writer, sink: &mut K, bytes: &[u8])
-    ensures { Wrote K.gained K.faults writer.old sink.old (map printed (strings 0 bytes.now)) writer.new sink.new }
+    ensures wrote { Wrote K.gained K.faults writer.old sink.old (map printed (strings 0 bytes.now)) writer.new sink.new }
+    ensures fared { Fated K.gained K.refused K.faults writer.old.failed writer.new.failed sink.old sink.new }
 {
     let mut left = 0;
     for byte in bytes {
@@ -114,7 +120,8 @@ fn write_strings<K: Sink>(writer: &mut Writer, sink: &mut K, bytes: &[u8])
 
 /// Writes the strings of data.
 fn write_text<K: Sink>(writer: &mut Writer, sink: &mut K, item: &Data<'_>)
-    ensures { Wrote K.gained K.faults writer.old sink.old (map printed (strings_in (body_of item.now))) writer.new sink.new }
+    ensures wrote { Wrote K.gained K.faults writer.old sink.old (map printed (strings_in (body_of item.now))) writer.new sink.new }
+    ensures fared { Fated K.gained K.refused K.faults writer.old.failed writer.new.failed sink.old sink.new }
 {
     if let Data::Bytes(bytes) = item {
         write_strings(writer, sink, bytes);
@@ -123,7 +130,8 @@ fn write_text<K: Sink>(writer: &mut Writer, sink: &mut K, item: &Data<'_>)
 
 /// Writes the line of MX data.
 fn write_exchange<K: Sink>(writer: &mut Writer, sink: &mut K, item: &Data<'_>)
-    ensures { Wrote K.gained K.faults writer.old sink.old (mx_in (body_of item.now)) writer.new sink.new }
+    ensures wrote { Wrote K.gained K.faults writer.old sink.old (mx_in (body_of item.now)) writer.new sink.new }
+    ensures fared { Fated K.gained K.refused K.faults writer.old.failed writer.new.failed sink.old sink.new }
 {
     if let Data::Mx(preference, name) = item {
         write_mx(writer, sink, *preference, name);
@@ -163,7 +171,8 @@ impl Part for Exchanges {
 /// Writes what each record of a message adds, in order.
 pub(crate) fn write_each<P: Part, K: Sink>(writer: &mut Writer, sink: &mut K, message: &Message<'_>)
     requires { AllByRecursion (λ r. model.HasNames r.body) message.now.records }
-    ensures { Wrote K.gained K.faults writer.old sink.old (flat_map P.text message.now.records) writer.new sink.new }
+    ensures wrote { Wrote K.gained K.faults writer.old sink.old (flat_map P.text message.now.records) writer.new sink.new }
+    ensures fared { Fated K.gained K.refused K.faults writer.old.failed writer.new.failed sink.old sink.new }
 {
     for at in 0..message.count() {
         P::write(writer, sink, message, at);

@@ -1,8 +1,10 @@
 //! The texts of the tools that look at answers alone.
 ghost use Rattle.std.specs.Prelude.{◌≡◌, ◌≤◌, length, Some};
 ghost use Rattle.dc_model.specs.Message as model;
-ghost use Rattle.dc_event.specs.Answers.{count_put};
+ghost use Rattle.dc_event.specs.Answers.{well_put};
+ghost use Rattle.dc_event.specs.Causes.{Fares};
 ghost use Rattle.dc_packet.specs.Rows.{AreRowsOf};
+ghost use Rattle.dc_writer.specs.Fated.{Fated};
 ghost use Rattle.dc_writer.specs.Written.{Wrote, PutWhole};
 ghost use Rattle.dc_lookup.specs.Text as model_text;
 ghost use Rattle.dc_lookup.specs.Text.{ip_text, host_text, name_text, txt_text, mx_text};
@@ -28,7 +30,7 @@ pub fn show_ip<K: Sink>(
     requires packet { length packet.now ≤ 65535 }
     requires table { AreRowsOf packet.now table.now }
     ensures whole { (m : model.Message) → model.message_of packet.now ≡ Some m → PutWhole K.gained result sink.old (ip_text m) sink.new }
-    ensures count { K.faults sink.new ≡ count_put result (K.faults sink.old) }
+    ensures fares { Fares K.gained K.refused K.faults (well_put result) sink.old sink.new }
 {
     let message = Message::new(packet, table);
     let mut writer = Writer::new();
@@ -49,7 +51,8 @@ pub fn host_of(packet: &[u8], table: &Table) -> Option<Name>
 
 /// Writes a name, or nothing.
 fn write_host<K: Sink>(writer: &mut Writer, sink: &mut K, host: &Option<Name>)
-    ensures { Wrote K.gained K.faults writer.old sink.old (host_text host.now) writer.new sink.new }
+    ensures wrote { Wrote K.gained K.faults writer.old sink.old (host_text host.now) writer.new sink.new }
+    ensures fared { Fated K.gained K.refused K.faults writer.old.failed writer.new.failed sink.old sink.new }
 {
     if let Some(name) = host {
         write_dot(writer, sink, name);
@@ -68,7 +71,7 @@ pub fn show_name<K: Sink>(
     requires packet { length packet.now ≤ 65535 }
     requires table { AreRowsOf packet.now table.now }
     ensures whole { (m : model.Message) → model.message_of packet.now ≡ Some m → PutWhole K.gained result sink.old (name_text m) sink.new }
-    ensures count { K.faults sink.new ≡ count_put result (K.faults sink.old) }
+    ensures fares { Fares K.gained K.refused K.faults (well_put result) sink.old sink.new }
 {
     let message = Message::new(packet, table);
     let host = first_host(&message);
@@ -90,7 +93,7 @@ pub fn show_txt<K: Sink>(
     requires packet { length packet.now ≤ 65535 }
     requires table { AreRowsOf packet.now table.now }
     ensures whole { (m : model.Message) → model.message_of packet.now ≡ Some m → PutWhole K.gained result sink.old (txt_text m) sink.new }
-    ensures count { K.faults sink.new ≡ count_put result (K.faults sink.old) }
+    ensures fares { Fares K.gained K.refused K.faults (well_put result) sink.old sink.new }
 {
     let message = Message::new(packet, table);
     let mut writer = Writer::new();
@@ -102,7 +105,8 @@ pub fn show_txt<K: Sink>(
 /// Writes the lines of the mail exchanges of a message, or that of the name itself where there is none.
 fn write_exchanges<K: Sink>(writer: &mut Writer, sink: &mut K, name: &Name, message: &Message<'_>)
     requires { AllByRecursion (λ r. model.HasNames r.body) message.now.records }
-    ensures { Wrote K.gained K.faults writer.old sink.old (mx_text name.now message.now) writer.new sink.new }
+    ensures wrote { Wrote K.gained K.faults writer.old sink.old (mx_text name.now message.now) writer.new sink.new }
+    ensures fared { Fated K.gained K.refused K.faults writer.old.failed writer.new.failed sink.old sink.new }
 {
     if has_answers(message, KIND_MX) {
         write_each::<Exchanges, K>(writer, sink, message);
@@ -117,7 +121,7 @@ pub fn show_mx<K: Sink>(name: &Name, _qtype: u16, packet: &[u8], table: &Table, 
     requires packet { length packet.now ≤ 65535 }
     requires table { AreRowsOf packet.now table.now }
     ensures whole { (m : model.Message) → model.message_of packet.now ≡ Some m → PutWhole K.gained result sink.old (mx_text name.now m) sink.new }
-    ensures count { K.faults sink.new ≡ count_put result (K.faults sink.old) }
+    ensures fares { Fares K.gained K.refused K.faults (well_put result) sink.old sink.new }
 {
     let message = Message::new(packet, table);
     let mut writer = Writer::new();

@@ -1,5 +1,5 @@
 -- Reading and writing lines, step by step.
-use Rattle.std.proofs.Common.{◌≡◌, ℕ, zero, suc, ◌+◌, ◌<◌, ◌≤◌, ◌⊎◌, inl, inr, Bool, true, false, true≢false, cond, ltb, List, [], ◌∷◌, ◌++◌, length, refl, ap, sym, ◌∙◌, subst, arith, append_assoc, length-append, Option}
+use Rattle.std.proofs.Common.{◌≡◌, ℕ, zero, suc, ◌+◌, ◌<◌, ◌≤◌, ◌^◌, ◌⊎◌, inl, inr, Bool, true, false, true≢false, cond, ltb, List, [], ◌∷◌, ◌++◌, length, refl, ap, sym, ◌∙◌, subst, arith, append_assoc, length-append, Option}
 use Rattle.std.specs.List.{AllByRecursion}
 use Rattle.std.proofs.lemmas.List.{append-nil}
 use Rattle.std.proofs.lemmas.Bool.Decides.{nat_tests}
@@ -210,8 +210,8 @@ reaches s w l u front room =
     (sym (ap (λ (g : Flushed). filled_behind s.room g (l ∷ u)) (flushed_waits s.queue front) ∙ ap (λ (x : Filled). behind_text [] x) (filled_true s.room s.queue l u room))) k
 
 pub long_read : (s : Sifter) (h : Held) (b : List ℕ) (t : Sifter) (j : Held) (x : List ℕ) (p : List (List ℕ)) (m : List ℕ) (k : ℕ) → Goes s h b t j x p → j.ended ≡ false → FrontWaits t.queue → length t.queue < t.room
-    → k ≡ j.count + 1 → ((tail : List ℕ) → NextIsLong j.count ((j.rest ++ m) ++ tail)) → (tail : List ℕ) → ReadsLong s h.count (b ++ m) k tail
-long_read s h b t j x p m k g going front room number long tail =
+    → j.count ≤ 2 ^ 60 → k ≡ j.count + 1 → ((tail : List ℕ) → NextIsLong j.count ((j.rest ++ m) ++ tail)) → (tail : List ℕ) → ReadsLong s h.count (b ++ m) k tail
+long_read s h b t j x p m k g going front room most number long tail =
     let may : MayCome j.ended (m ++ tail) = subst (λ (e : Bool). MayCome e (m ++ tail)) (sym going) tt in
     let n = long tail in
     let next : lines_of (j.rest ++ (m ++ tail)) ≡ n.line ∷ n.behind = ap (λ (y : List ℕ). lines_of y) (sym (append_assoc j.rest m tail)) ∙ n.lines in
@@ -221,6 +221,7 @@ long_read s h b t j x p m k g going front room number long tail =
       behind = n.behind;
       lines = ap (λ (y : List ℕ). lines_of y) (append_assoc b m tail) ∙ g.read (m ++ tail) may ∙ ap (λ (y : List (List ℕ)). p ++ y) next;
       short = g.short;
+      few = subst (λ (c : ℕ). c ≤ 2 ^ 60) g.count most;
       number = omega (arith, number, g.count);
       long = subst (λ (c : ℕ). IsTooLong c n.line) g.count n.long;
       reached = λ w.

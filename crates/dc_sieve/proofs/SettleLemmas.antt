@@ -160,6 +160,6 @@ module _ {S K : Type 0} (took : S → List ℕ → S → Type 0) (left : S → O
     (λ e. absurd (true≢false (sym (f.later e).1 ∙ going))),
     (
       subst (λ (b : List ℕ). WritesFront s b f.text false) (append_assoc h.rest f.more m) (front_read s h (h.rest ++ f.more) t j f.text f.past m false f.goes going),
-      (λ tail. subst (λ (b : List ℕ). ReadsLong s h.count b number tail) (append_assoc h.rest f.more m) (long_read s h (h.rest ++ f.more) t j f.text f.past m number f.goes going front room is long tail)),
+      (λ tail. subst (λ (b : List ℕ). ReadsLong s h.count b number tail) (append_assoc h.rest f.more m) (long_read s h (h.rest ++ f.more) t j f.text f.past m number f.goes going front room f.few is long tail)),
     ),
   )

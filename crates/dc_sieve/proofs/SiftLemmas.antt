@@ -22,9 +22,10 @@ use Rattle.dc_filter.specs.Serving.{filter_passes, IsServed}
 use Rattle.dc_filter.proofs.Serving.{served as is_served}
 use Rattle.dc_sieve.specs.Input.{Held, MayCome, IsShort, IsTooLong}
 use Rattle.dc_sieve.specs.Going.{filter_at, Goes, IsWithin, IsQuiet, IsLater, ReadsLong}
-use Rattle.dc_sieve.specs.declared.status.SieveStatus.{SieveStatus}
-use Rattle.dc_sieve.specs.declared.status.SieveStatus.TheVariants.{Done}
-use Rattle.dc_sieve.specs.Sifted.{fresh_sifter, fresh_input, start_of, lines_read, AreReadable, IsLong, Closes, further, Filters, Sifted}
+use Rattle.dc_stub.specs.Word.{further}
+use Rattle.dc_stub.specs.declared.status.ToolStatus.{ToolStatus}
+use Rattle.dc_stub.specs.declared.status.ToolStatus.TheVariants.{Done}
+use Rattle.dc_sieve.specs.Sifted.{fresh_sifter, fresh_input, start_of, lines_read, AreReadable, IsLong, Closes, Filters, Sifted}
 use Rattle.dc_sieve.proofs.GoingLemmas.{may_by}
 use Rattle.dc_sieve.proofs.RunLemmas.{after_from, passes_from, went_from}
 
@@ -263,7 +264,7 @@ module _ {S K W : Type 0} (took : S → List ℕ → S → Type 0) (left : S →
   same_wake t text u = refl
 
   -- The world or the limit ended it.
-  pub sifted_on : (used_up : W → Type 0) (broken : W → ℕ → Type 0) (limit : ℕ) (status : SieveStatus) (s : Sifter) (h : Held) (now : S) (out : K) (world next : W) (es : List Event) (t : Sifter) (f : SoSifted s h now out world)
+  pub sifted_on : (used_up : W → Type 0) (broken : W → ℕ → Type 0) (limit : ℕ) (status : ToolStatus) (s : Sifter) (h : Held) (now : S) (out : K) (world next : W) (es : List Event) (t : Sifter) (f : SoSifted s h now out world)
       → IsQuiet s h → All IsEvent es → t ≡ state_after sifter_machine words (length f.events) s es → GoesOn sifter_machine words (length f.events) s es → waits_for_front t.queue ≡ true
       → history world (each_passes sifter_machine words (length f.events) s es ++ further status (sifter_machine.wake t)) next
       → ((lines : List (List ℕ)) (x : Filter) → is_at_end x ≡ false → f.text ≡ x.written → AreReadable lines x → Closes status lines x f.text (length (f.events ++ es)) limit (used_up next) (broken next) (IsAtEnd (left now)))
@@ -295,7 +296,7 @@ module _ {S K W : Type 0} (took : S → List ℕ → S → Type 0) (left : S →
   }
 
   -- Reading or writing lines ended it.
-  pub sifted_part : (used_up : W → Type 0) (broken : W → ℕ → Type 0) (limit : ℕ) (status : SieveStatus) (s : Sifter) (h : Held) (now next : S) (out put : K) (world : W) (more text : List ℕ) (j : Held) (f : SoSifted s h now out world)
+  pub sifted_part : (used_up : W → Type 0) (broken : W → ℕ → Type 0) (limit : ℕ) (status : ToolStatus) (s : Sifter) (h : Held) (now next : S) (out put : K) (world : W) (more text : List ℕ) (j : Held) (f : SoSifted s h now out world)
       → took now more next → gained out text put → IsLater h more j → (j.ended ≡ true → IsAtEnd (left next)) → further status ≡ (λ (x : Option ℕ). [])
       → ((tail : List ℕ) → MayCome j.ended tail → (x : Filter) → x ≡ settled (filter_at s f.text (h.rest ++ more) tail) → lines_of ((f.bytes ++ more) ++ tail) ≡ f.past ++ lines_of ((h.rest ++ more) ++ tail)
       → Closes status (lines_of ((f.bytes ++ more) ++ tail)) x (f.text ++ text) (length f.events) limit (used_up world) (broken world) (IsAtEnd (left next)))
@@ -334,6 +335,7 @@ module _ {S K W : Type 0} (took : S → List ℕ → S → Type 0) (left : S →
         behind = r.behind;
         parts = all ∙ ap (λ (y : List (List ℕ)). past ++ y) r.lines ∙ sym (append_assoc past r.past (r.line ∷ r.behind));
         short = all_behind IsShort past r.past short r.short;
+        few = subst (λ n. n ≤ 2 ^ 60) number r.few;
         number = r.number ∙ ap (λ n. n + 1) number;
         long = subst (λ n. IsTooLong n r.line) number r.long;
         reached = subst (λ (f : Filter). length f.unread ≤ length r.behind) (sym is) (r.reached text);

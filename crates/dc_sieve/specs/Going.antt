@@ -1,5 +1,5 @@
 -- How reading and writing lines goes on.
-use Rattle.std.specs.Prelude.{◌≡◌, ℕ, ◌+◌, ◌≤◌, ◌<◌, ◌⊎◌, true, false, Bool, List, [], ◌∷◌, ◌++◌, length}
+use Rattle.std.specs.Prelude.{◌≡◌, ℕ, ◌+◌, ◌≤◌, ◌<◌, ◌^◌, ◌⊎◌, true, false, Bool, List, [], ◌∷◌, ◌++◌, length}
 use Rattle.std.specs.List.{AllByRecursion}
 use Rattle.dc_model.specs.Rules.{lines_of}
 use Rattle.dc_event.specs.Told.{BeginsWith}
@@ -39,13 +39,14 @@ IsLater h more j = h.ended ≡ true → (more ≡ []) × (j.ended ≡ true)
 abbrev pub WritesFront : Sifter → (bytes text : List ℕ) → (ended : Bool) → Type 0
 WritesFront s bytes text ended = (written tail : List ℕ) → MayCome ended tail → BeginsWith (written ++ text) (settled (filter_at s written bytes tail)).written
 
--- The line of number k is too long or comes behind too many, those before it aren't, and it is read.
+-- The line of number k is the first that is too long or comes behind too many, and it is read.
 pub record ReadsLong (s : Sifter) (before : ℕ) (bytes : List ℕ) (k : ℕ) (tail : List ℕ) : Type 0 where
   pub past : List (List ℕ)
   pub line : List ℕ
   pub behind : List (List ℕ)
   pub lines : lines_of (bytes ++ tail) ≡ past ++ (line ∷ behind)
   pub short : AllByRecursion IsShort past
+  pub few : before + length past ≤ 2 ^ 60
   pub number : k ≡ (before + length past) + 1
   pub long : IsTooLong (before + length past) line
   pub reached : (written : List ℕ) → length (settled (filter_at s written bytes tail)).unread ≤ length behind

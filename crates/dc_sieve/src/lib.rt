@@ -4,8 +4,6 @@
 mod input;
 mod settle;
 mod sifting;
-mod status;
 
 pub use input::{Input, Read};
 pub use sifting::{Sieve, sift};
-pub use status::SieveStatus;

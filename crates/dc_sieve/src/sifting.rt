@@ -3,15 +3,16 @@ ghost use Rattle.std.specs.Prelude.{◌≡◌, ℕ, ◌≤◌, ◌^◌, List, mi
 ghost use Rattle.dc_model.specs.Draws.{draws_of};
 ghost use Rattle.dc_model.specs.Places.{all_empty};
 ghost use Rattle.dc_event.specs.Causes.{Fares};
-ghost use Rattle.dc_sieve.specs.Sifted.{Sifted, fresh_sifter, fresh_input, input_well, output_well, count_world};
+ghost use Rattle.dc_stub.specs.Faults.{input_well, output_well, count_world};
+ghost use Rattle.dc_sieve.specs.Sifted.{Sifted, fresh_sifter, fresh_input};
 
 use crate::input::Input;
 use crate::settle::{Settled, settle};
-use crate::status::SieveStatus;
 use dc_draws::Draws;
 use dc_event::{Engine, Inbox, Sink, Source, World};
 use dc_filter::FilterEngine;
 use dc_serve::{Served, serve};
+use dc_stub::ToolStatus;
 use std::alloc::{AllocError, Global};
 
 /// What the filter works with.
@@ -55,7 +56,7 @@ pub fn sift<S: Source, K: Sink, W: World>(
     sink: &mut K,
     world: &mut W,
     turns: u64,
-) -> SieveStatus
+) -> ToolStatus
     requires engine { sieve.old.engine ≡ fresh_sifter sieve.old.engine.room sieve.old.engine.servers }
     requires room { 1 ≤ sieve.old.engine.room }
     requires input { sieve.old.input ≡ fresh_input }
@@ -70,12 +71,12 @@ pub fn sift<S: Source, K: Sink, W: World>(
     'sifting: loop {
         match settle(&mut sieve.engine, &mut sieve.input, source, sink) {
             Settled::Quiet => {}
-            Settled::ReadFault => return SieveStatus::ReadFault,
-            Settled::WriteFault => return SieveStatus::WriteFault,
-            Settled::LongLine(number) => return SieveStatus::LongLine(number),
+            Settled::ReadFault => return ToolStatus::ReadFault,
+            Settled::WriteFault => return ToolStatus::WriteFault,
+            Settled::LongLine(number) => return ToolStatus::LongLine(number),
         }
         if sieve.engine.finished() {
-            return SieveStatus::Done;
+            return ToolStatus::Done;
         }
         let left = limit - sieve.engine.handled();
         match serve(
@@ -86,10 +87,10 @@ pub fn sift<S: Source, K: Sink, W: World>(
             left,
         ) {
             Served::Finished => {}
-            Served::Spent => return SieveStatus::Spent,
-            Served::Ended => return SieveStatus::Ended,
-            Served::Failed => return SieveStatus::WorldFault,
-            Served::Bad { line } => return SieveStatus::BadScript(line),
+            Served::Spent => return ToolStatus::Spent,
+            Served::Ended => return ToolStatus::Ended,
+            Served::Failed => return ToolStatus::WorldFault,
+            Served::Bad { line } => return ToolStatus::BadScript(line),
         }
     }
 }

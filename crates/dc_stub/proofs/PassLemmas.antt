@@ -21,7 +21,7 @@ use Rattle.dc_stub.specs.Word.{WordEnds, further, fresh_stub, Worded}
 use Rattle.dc_stub.specs.Look.{HasGivenUp, look_passes, Closes, Looked, job_of}
 use Rattle.dc_stub.specs.declared.look.Job.{Job as CodeJob}
 use Rattle.dc_stub.specs.declared.status.ToolStatus.{ToolStatus}
-use Rattle.dc_stub.specs.declared.status.ToolStatus.TheVariants.{Done, Usage, NoAnswer, NoPort, Malformed, Ended, Spent, FilesFault, WriteFault, WorldFault, BadScript, NoMemory}
+use Rattle.dc_stub.specs.declared.status.ToolStatus.TheVariants.{Done, Usage, NoAnswer, NoPort, Malformed, Ended, Spent, FilesFault, WriteFault, WorldFault, BadScript, NoMemory, ReadFault, LongLine}
 use Rattle.dc_stub.proofs.LookLemmas.{behind_word, at_asking, not_over, Same, same_from, after_more, passes_more, went_more}
 
 -- What a question keeps.
@@ -311,6 +311,8 @@ module _ {W K : Type 0} (history : W → List Exchange → W → Type 0) (used_u
         )
     closes Usage other e = absurd e
     closes FilesFault other e = absurd e
+    closes ReadFault other e = absurd e
+    closes (LongLine k) other e = absurd e
 
     further_is : (x : ToolStatus) → Ends x → further x (ask_wake final) ≡ further x (look_wake behind)
     further_is Done e = refl
@@ -325,6 +327,8 @@ module _ {W K : Type 0} (history : W → List Exchange → W → Type 0) (used_u
     further_is WriteFault e = refl
     further_is Usage e = refl
     further_is FilesFault e = refl
+    further_is ReadFault e = refl
+    further_is (LongLine k) e = refl
 
     pub asked_ends : (status ≡ Done → ⊥) → Looked_so new snew status
     asked_ends other =

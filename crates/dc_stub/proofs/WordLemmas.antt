@@ -16,7 +16,7 @@ use Rattle.dc_serve.specs.declared.Served.TheVariants as served
 use Rattle.dc_stub.specs.Stub.{Stub, stub_machine}
 use Rattle.dc_stub.specs.Word.{TellsBy, WordEnds, further, fresh_stub, Worded}
 use Rattle.dc_stub.specs.declared.status.ToolStatus.{ToolStatus}
-use Rattle.dc_stub.specs.declared.status.ToolStatus.TheVariants.{Done, Usage, NoAnswer, NoPort, Malformed, Ended, Spent, FilesFault, WriteFault, WorldFault, BadScript, NoMemory}
+use Rattle.dc_stub.specs.declared.status.ToolStatus.TheVariants.{Done, Usage, NoAnswer, NoPort, Malformed, Ended, Spent, FilesFault, WriteFault, WorldFault, BadScript, NoMemory, ReadFault, LongLine}
 
 -- Each event counts.
 pub handled_is : (words : ℕ → List ℕ) (n : ℕ) (s : Stub) (es : List Event) → (state_after stub_machine words n s es).handled ≡ s.handled + length es
@@ -101,6 +101,8 @@ module _ {W K : Type 0} (history : W → List Exchange → W → Type 0) (used_u
   tells_wake WorldFault stands text wake h = absurd h
   tells_wake (BadScript k) stands text wake h = absurd h
   tells_wake NoMemory stands text wake h = absurd h
+  tells_wake ReadFault stands text wake h = absurd h
+  tells_wake (LongLine k) stands text wake h = absurd h
 
   tells_ends : (status : ToolStatus) (stands : Option Progress) (text : List ℕ) (count : ℕ) (u : Type 0) (b : ℕ → Type 0)
       → TellsBy tool name kind stands text status → WordEnds status tool name kind stands text count limit u b
@@ -116,6 +118,8 @@ module _ {W K : Type 0} (history : W → List Exchange → W → Type 0) (used_u
   tells_ends WorldFault stands text count u b h = absurd h
   tells_ends (BadScript k) stands text count u b h = absurd h
   tells_ends NoMemory stands text count u b h = absurd h
+  tells_ends ReadFault stands text count u b h = absurd h
+  tells_ends (LongLine k) stands text count u b h = absurd h
 
   pub worded_over : (status : ToolStatus) (text : List ℕ) (events : List Event) (start final : Stub)
       → start ≡ fresh_stub servers name kind → Served_so served.Finished events start final

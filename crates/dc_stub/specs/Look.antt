@@ -10,7 +10,7 @@ use Rattle.dc_stub.specs.Word.{further, own_text}
 use Rattle.dc_stub.specs.declared.look.Job.{Job}
 use Rattle.dc_stub.specs.declared.look.Job.TheVariants.{Says, Asks}
 use Rattle.dc_stub.specs.declared.status.ToolStatus.{ToolStatus}
-use Rattle.dc_stub.specs.declared.status.ToolStatus.TheVariants.{Done, Usage, NoAnswer, NoPort, Malformed, Ended, Spent, FilesFault, WriteFault, WorldFault, BadScript, NoMemory}
+use Rattle.dc_stub.specs.declared.status.ToolStatus.TheVariants.{Done, Usage, NoAnswer, NoPort, Malformed, Ended, Spent, FilesFault, WriteFault, WorldFault, BadScript, NoMemory, ReadFault, LongLine}
 
 -- A job, as the definitions have it.
 abbrev pub job_of : Job → words.Job
@@ -46,6 +46,8 @@ Closes NoMemory l text count limit used_up broken = (HasGivenUp l.stage → ⊥)
 Closes WriteFault l text count limit used_up broken = (HasGivenUp l.stage → ⊥) × BeginsWith text (written l)
 Closes Usage l text count limit used_up broken = ⊥
 Closes FilesFault l text count limit used_up broken = ⊥
+Closes ReadFault l text count limit used_up broken = ⊥
+Closes (LongLine k) l text count limit used_up broken = ⊥
 
 -- A tool went over its words, from this state on, between two states of the world and of the sink: what passed in the world is what passes
 -- at the tool's machine, with the call that gave no event, where there was one.

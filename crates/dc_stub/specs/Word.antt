@@ -18,7 +18,7 @@ use Rattle.dc_lookup.specs.Asking.{unasked, is_over_by, ask_wake}
 use Rattle.dc_serve.specs.Serve.{each_passes}
 use Rattle.dc_stub.specs.Stub.{Stub, stub_machine}
 use Rattle.dc_stub.specs.declared.status.ToolStatus.{ToolStatus}
-use Rattle.dc_stub.specs.declared.status.ToolStatus.TheVariants.{Done, Usage, NoAnswer, NoPort, Malformed, Ended, Spent, FilesFault, WriteFault, WorldFault, BadScript, NoMemory}
+use Rattle.dc_stub.specs.declared.status.ToolStatus.TheVariants.{Done, Usage, NoAnswer, NoPort, Malformed, Ended, Spent, FilesFault, WriteFault, WorldFault, BadScript, NoMemory, ReadFault, LongLine}
 
 -- The text of an address that needs no asking.
 abbrev pub own_text : List ℕ → List ℕ
@@ -43,6 +43,8 @@ Tells tool name kind p text FilesFault = ⊥
 Tells tool name kind p text WorldFault = ⊥
 Tells tool name kind p text (BadScript k) = ⊥
 Tells tool name kind p text NoMemory = ⊥
+Tells tool name kind p text ReadFault = ⊥
+Tells tool name kind p text (LongLine k) = ⊥
 
 -- What is told of a transmission that has ended.
 abbrev pub TellsBy : Tool → Name → ℕ → Option Progress → List ℕ → ToolStatus → Type 0
@@ -58,6 +60,8 @@ TellsBy tool name kind stands text FilesFault = ⊥
 TellsBy tool name kind stands text WorldFault = ⊥
 TellsBy tool name kind stands text (BadScript k) = ⊥
 TellsBy tool name kind stands text NoMemory = ⊥
+TellsBy tool name kind stands text ReadFault = ⊥
+TellsBy tool name kind stands text (LongLine k) = ⊥
 
 -- How a word ends: its transmission has ended; or it hasn't, and the world or the limit ended it, or there was no memory for it.
 abbrev pub WordEnds : ToolStatus → Tool → Name → ℕ → Option Progress → List ℕ → (count limit : ℕ) → (used_up : Type 0) → (broken : ℕ → Type 0) → Type 0

@@ -2,8 +2,9 @@
 ghost use Rattle.std.specs.Prelude.{◌≡◌, ◌≢◌, ◌+◌, ◌<◌, ◌≤◌, ◌^◌, ℕ, List, length, map, true, false};
 ghost use Rattle.dc_model.specs.Draws.{draws_of};
 ghost use Rattle.dc_model.specs.Places.{all_empty};
-ghost use Rattle.dc_event.specs.Causes.{counted};
+ghost use Rattle.dc_event.specs.Causes.{counted, Fares};
 ghost use Rattle.dc_lookup.specs.Lookup.{opened};
+ghost use Rattle.dc_stub.specs.Faults.{output_well};
 ghost use Rattle.dc_stub.specs.Look.{Looked, job_of};
 
 use crate::status::ToolStatus;
@@ -43,8 +44,7 @@ pub fn look_up<T: Shows, K: Sink, W: World>(
     requires left { session.old.left ≤ 2 ^ 60 }
     ensures looked { Looked W.history W.used_up W.broken K.gained world.old world.new sink.old sink.new
         T.tool (opened servers.now (map job_of jobs.now)) (draws_of session.old.draws.seed) session.old.left result }
-    ensures write_fault { result ≡ ToolStatus.WriteFault → K.faults sink.new ≡ counted (K.faults sink.old) }
-    ensures write_stays { result ≢ ToolStatus.WriteFault → K.faults sink.new ≡ K.faults sink.old }
+    ensures sink_fares { Fares K.gained K.refused K.faults (output_well result) sink.old sink.new }
     ensures world_fault { result ≡ ToolStatus.WorldFault → W.faults world.new ≡ counted (W.faults world.old) }
     ensures world_stays { result ≢ ToolStatus.WorldFault → W.faults world.new ≡ W.faults world.old }
 {

@@ -2,8 +2,9 @@
 ghost use Rattle.std.specs.Prelude.{◌≡◌, ◌≢◌, ◌+◌, ◌<◌, ◌≤◌, ◌^◌, ℕ, List, length, map, min, false};
 ghost use Rattle.dc_model.specs.Draws.{draws_of};
 ghost use Rattle.dc_model.specs.Places.{all_empty};
-ghost use Rattle.dc_event.specs.Causes.{counted};
+ghost use Rattle.dc_event.specs.Causes.{counted, Fares};
 ghost use Rattle.dc_lookup.specs.Lookup.{opened};
+ghost use Rattle.dc_stub.specs.Faults.{output_well};
 ghost use Rattle.dc_stub.specs.Look.{Looked, job_of};
 
 use crate::look::{Job, look_up};
@@ -25,8 +26,7 @@ pub fn run_jobs<T: Shows, K: Sink, W: World>(
     requires place { all_empty servers.now ≡ false }
     ensures looked { Looked W.history W.used_up W.broken K.gained world.old world.new sink.old sink.new
         T.tool (opened servers.now (map job_of jobs.now)) (draws_of seed) (min turns (2 ^ 60)) result }
-    ensures write_fault { result ≡ ToolStatus.WriteFault → K.faults sink.new ≡ counted (K.faults sink.old) }
-    ensures write_stays { result ≢ ToolStatus.WriteFault → K.faults sink.new ≡ K.faults sink.old }
+    ensures sink_fares { Fares K.gained K.refused K.faults (output_well result) sink.old sink.new }
     ensures world_fault { result ≡ ToolStatus.WorldFault → W.faults world.new ≡ counted (W.faults world.old) }
     ensures world_stays { result ≢ ToolStatus.WorldFault → W.faults world.new ≡ W.faults world.old }
 {

@@ -1,10 +1,11 @@
 //! The servers that a tool asks.
-ghost use Rattle.std.specs.Prelude.{◌≡◌, ◌≢◌, ℕ, List, Some, None, Ok, Err, OnOk, OnErr, IfOk, codes, false};
+ghost use Rattle.std.specs.Prelude.{◌≡◌, ℕ, List, Some, None, IfOk, codes, false};
 ghost use Rattle.dc_model.specs.Places.{places_of, all_empty};
-ghost use Rattle.dc_event.specs.Causes.{counted};
+ghost use Rattle.dc_event.specs.Causes.{Fares};
 ghost use Rattle.dc_config.specs.Tree.{Tree};
 ghost use Rattle.dc_config.specs.Environment.{value_of};
 ghost use Rattle.dc_lookup.specs.Servers as tools;
+ghost use Rattle.dc_stub.specs.Faults.{well_servers};
 
 use dc_config::{Env, FileRead, Files};
 use dc_rules::{address_in, if_filled};
@@ -96,7 +97,8 @@ fn own_server(env: &Env) -> Option<[u8; 4]>
     if_filled(found)
 }
 
-/// The servers that a tool asks: that of DNSCACHEIP, or those of `/etc/resolv.conf`, or this machine.
+/// The servers that a tool asks: that of DNSCACHEIP, or those of `/etc/resolv.conf`, or this machine. `FilesFault` comes exactly where
+/// the call on the files failed, which is then the last.
 pub fn servers_of<F: Files>(
     alloc: Global,
     env: &Env,
@@ -106,8 +108,7 @@ pub fn servers_of<F: Files>(
     ensures place { IfOk result (λ servers. all_empty servers ≡ false) }
     ensures unread { (a : List ℕ) → tools.own_server (value_of (codes "DNSCACHEIP") env.now) ≡ Some a → files.new ≡ files.old }
     ensures same { F.tree files.new ≡ F.tree files.old }
-    ensures stays { result ≢ Err StubError.FilesFault → F.faults files.new ≡ F.faults files.old }
-    ensures failed { result ≡ Err StubError.FilesFault → F.faults files.new ≡ counted (F.faults files.old) }
+    ensures fares { Fares F.asked F.refused F.faults (well_servers result) files.old files.new }
 {
     if let Some(server) = own_server(env) {
         let mut places = [[0; 4]; 16];

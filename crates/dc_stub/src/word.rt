@@ -3,12 +3,13 @@ ghost use Rattle.std.specs.Prelude.{◌≡◌, ◌≢◌, ◌+◌, ◌-◌, ◌<
 ghost use Rattle.dc_model.specs.Message.{Message as Said, message_of};
 ghost use Rattle.dc_model.specs.Places.{all_empty};
 ghost use Rattle.dc_packet.specs.Rows.{AreRowsOf};
-ghost use Rattle.dc_event.specs.Answers.{count_put};
-ghost use Rattle.dc_event.specs.Causes.{counted};
+ghost use Rattle.dc_event.specs.Answers.{well_put};
+ghost use Rattle.dc_event.specs.Causes.{counted, Fares};
 ghost use Rattle.dc_lookup.specs.Words.{Tool, shown_by};
 ghost use Rattle.dc_lookup.specs.Asking.{is_over};
 ghost use Rattle.dc_model.specs.Draws.{draws_of};
 ghost use Rattle.dc_model.specs.Event.{Event};
+ghost use Rattle.dc_stub.specs.Faults.{output_well};
 ghost use Rattle.dc_stub.specs.Word.{IsShown, Worded, Tells, TellsBy, own_text};
 
 use crate::engine::{StubEngine, ask};
@@ -30,12 +31,12 @@ pub trait Shows {
         requires packet { length packet.now ≤ 65535 }
         requires table { AreRowsOf packet.now table.now }
         ensures whole { (m : Said) → message_of packet.now ≡ Some m → IsShown K.gained result sink.old (shown_by tool name.now kind packet.now m) sink.new }
-        ensures count { K.faults sink.new ≡ count_put result (K.faults sink.old) };
+        ensures fares { Fares K.gained K.refused K.faults (well_put result) sink.old sink.new };
 
     /// Writes the text of an address that needs no asking.
     fn say<K: Sink>(addr: [u8; 4], sink: &mut K) -> Put
         ensures whole { IsShown K.gained result sink.old (own_text addr) sink.new }
-        ensures count { K.faults sink.new ≡ count_put result (K.faults sink.old) };
+        ensures fares { Fares K.gained K.refused K.faults (well_put result) sink.old sink.new };
 }
 
 /// What the words of a tool share.
@@ -73,8 +74,7 @@ fn tell<T: Shows, K: Sink>(
 ) -> ToolStatus
     requires packet { length packet.now ≤ 65535 }
     ensures told { (text : List ℕ) × K.gained sink.old text sink.new × Tells T.tool name.now kind packet.now text result }
-    ensures stays { result ≢ ToolStatus.WriteFault → K.faults sink.new ≡ K.faults sink.old }
-    ensures failed { result ≡ ToolStatus.WriteFault → K.faults sink.new ≡ counted (K.faults sink.old) }
+    ensures sink_fares { Fares K.gained K.refused K.faults (output_well result) sink.old sink.new }
 {
     match table.read(packet) {
         Err(_) => ToolStatus::Malformed,
@@ -95,8 +95,7 @@ fn conclude<T: Shows, K: Sink>(
 ) -> ToolStatus
     requires over { is_over stub.now.asking ≡ true }
     ensures told { (text : List ℕ) × K.gained sink.old text sink.new × TellsBy T.tool name.now kind stub.now.asking.stands text result }
-    ensures stays { result ≢ ToolStatus.WriteFault → K.faults sink.new ≡ K.faults sink.old }
-    ensures failed { result ≡ ToolStatus.WriteFault → K.faults sink.new ≡ counted (K.faults sink.old) }
+    ensures sink_fares { Fares K.gained K.refused K.faults (output_well result) sink.old sink.new }
 {
     match stub.answer() {
         Some(packet) => tell::<T, K>(name, kind, packet, table, sink),
@@ -127,8 +126,7 @@ pub fn ask_word<T: Shows, K: Sink, W: World>(
         T.tool servers.now name.now kind (draws_of session.old.draws.seed) session.old.draws.given session.old.left result events
         × ((session.new.draws ≡ record { seed = session.old.draws.seed; given = session.old.draws.given + length events })
         × (session.new.left + length events ≡ session.old.left))) }
-    ensures write_fault { result ≡ ToolStatus.WriteFault → K.faults sink.new ≡ counted (K.faults sink.old) }
-    ensures write_stays { result ≢ ToolStatus.WriteFault → K.faults sink.new ≡ K.faults sink.old }
+    ensures sink_fares { Fares K.gained K.refused K.faults (output_well result) sink.old sink.new }
     ensures world_fault { result ≡ ToolStatus.WorldFault → W.faults world.new ≡ counted (W.faults world.old) }
     ensures world_stays { result ≢ ToolStatus.WorldFault → W.faults world.new ≡ W.faults world.old }
 {

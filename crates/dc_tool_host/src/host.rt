@@ -2,14 +2,14 @@
 
 use crate::report::{exit_code, report};
 use dc_config::{Env as Environment, HostFiles};
-use dc_event::WriterSink;
+use dc_event::{ReaderSource, WriterSink};
 use dc_os::Os;
 use dc_sock::SocketWorld;
 use dc_stub::ToolStatus;
 use dc_tools::{Tool, run};
 use std::alloc::AllocError;
 use std::env::{self, VarError};
-use std::io::{self, ErrorKind, Write};
+use std::io::{self, ErrorKind, Read, Write};
 use std::net::Net;
 use std::process::ExitCode;
 use std::random::RandomSource;
@@ -85,12 +85,61 @@ fn run_words<T: Tool, R: Host, O: Write + Drop>(rt: &R, words: &[String], output
     )
 }
 
+/// Runs the filter with these words, and a seed of the system's random source.
+fn run_filter<R: Host, I: Read + Drop, O: Write + Drop>(
+    rt: &R,
+    words: &[String],
+    input: I,
+    output: O,
+) -> ToolStatus {
+    let Ok(environment) = environment(rt) else {
+        return ToolStatus::NoMemory;
+    };
+    let mut seed = [0u8; 32];
+    if rt.fill_bytes(&mut seed).is_err() {
+        return ToolStatus::FilesFault;
+    }
+    let Ok(mut world) = world(rt) else {
+        return ToolStatus::NoMemory;
+    };
+    dc_filtering::run(
+        rt.alloc(),
+        words,
+        &environment,
+        &mut HostFiles::new(rt),
+        seed,
+        &mut ReaderSource::new(input),
+        &mut WriterSink::new(output),
+        &mut world,
+        u64::MAX,
+    )
+}
+
+/// Says how a tool ended, and answers the exit status.
+fn end<R: Host>(rt: &R, name: &str, status: ToolStatus) -> ExitCode {
+    report(rt, name, status);
+    exit_code(status)
+}
+
 /// Runs a tool, says how it ended, and answers the exit status.
 pub fn tool<T: Tool, R: Host, O: Write + Drop>(rt: &R, name: &str, output: O) -> ExitCode {
     let status = match words(rt) {
         Ok(words) => run_words::<T, R, O>(rt, &words, output),
         Err(why) => unreadable(&why),
     };
-    report(rt, name, status);
-    exit_code(status)
+    end(rt, name, status)
+}
+
+/// Runs the filter over an input, says how it ended, and answers the exit status.
+pub fn filter<R: Host, I: Read + Drop, O: Write + Drop>(
+    rt: &R,
+    name: &str,
+    input: I,
+    output: O,
+) -> ExitCode {
+    let status = match words(rt) {
+        Ok(words) => run_filter(rt, &words, input, output),
+        Err(why) => unreadable(&why),
+    };
+    end(rt, name, status)
 }

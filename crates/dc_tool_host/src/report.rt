@@ -7,7 +7,7 @@ use dc_stub::ToolStatus;
 use std::io::Eprint;
 use std::process::ExitCode;
 
-/// Why a tool ended, unless it ended well or the line of a script is to be told.
+/// Why a tool ended, unless it ended well. The number of a line is told behind it.
 fn text_of(status: ToolStatus) -> &'static str {
     match status {
         ToolStatus::Done => "",
@@ -22,6 +22,8 @@ fn text_of(status: ToolStatus) -> &'static str {
         ToolStatus::WorldFault => "network or log fault",
         ToolStatus::BadScript(_) => "bad script line",
         ToolStatus::NoMemory => "out of memory",
+        ToolStatus::ReadFault => "unable to read input",
+        ToolStatus::LongLine(_) => "line too long",
     }
 }
 
@@ -29,7 +31,7 @@ fn text_of(status: ToolStatus) -> &'static str {
 pub(crate) fn report<R: Eprint>(rt: &R, name: &str, status: ToolStatus) {
     let _told = match status {
         ToolStatus::Done => Ok(()),
-        ToolStatus::BadScript(line) => {
+        ToolStatus::BadScript(line) | ToolStatus::LongLine(line) => {
             eprintln!(rt; "{name}: fatal: {} {line}", text_of(status))
         }
         _ => eprintln!(rt; "{name}: fatal: {}", text_of(status)),

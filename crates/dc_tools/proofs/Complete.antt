@@ -3,7 +3,7 @@ use Rattle.std.proofs.Common.{◌≡◌, ◌≢◌, ◌⊎◌, inl, inr, ℕ, Bo
 use Rattle.dc_lookup.specs.Lookup.{Lookup, Stage, asking, ended, complete, unanswered, portless, unreadable, has_ended_by}
 use Rattle.dc_stub.specs.Look.{Closes}
 use Rattle.dc_stub.specs.declared.status.ToolStatus.{ToolStatus}
-use Rattle.dc_stub.specs.declared.status.ToolStatus.TheVariants.{Done, Usage, NoAnswer, NoPort, Malformed, Ended, Spent, FilesFault, WriteFault, WorldFault, BadScript, NoMemory}
+use Rattle.dc_stub.specs.declared.status.ToolStatus.TheVariants.{Done, Usage, NoAnswer, NoPort, Malformed, Ended, Spent, FilesFault, WriteFault, WorldFault, BadScript, NoMemory, ReadFault, LongLine}
 
 -- A tool that is complete has ended, and didn't give up.
 
@@ -28,3 +28,5 @@ answered_done NoMemory l text count limit used_up broken k c w = inr refl
 answered_done WriteFault l text count limit used_up broken k c w = absurd (w refl)
 answered_done Usage l text count limit used_up broken k c w = absurd k
 answered_done FilesFault l text count limit used_up broken k c w = absurd k
+answered_done ReadFault l text count limit used_up broken k c w = absurd k
+answered_done (LongLine n) l text count limit used_up broken k c w = absurd k

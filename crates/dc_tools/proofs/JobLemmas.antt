@@ -7,7 +7,7 @@ use Rattle.std.proofs.lemmas.List.{append-nil, map-append, drop_all}
 use Rattle.dc_lookup.specs.Words.{Job, each, some_each}
 use Rattle.dc_stub.specs.declared.look.Job.{Job as CodeJob}
 use Rattle.dc_stub.specs.Look.{job_of}
-use Rattle.dc_tools.specs.Ran.{bytes_of}
+use Rattle.dc_stub.specs.Begun.{bytes_of}
 
 nothing : (o : Option (List Job)) → o ≡ option_map (λ js. [] ++ js) o
 nothing None = refl

@@ -1,13 +1,14 @@
 //! A tool's run.
 ghost use Rattle.std.specs.Prelude.{◌≡◌, ◌≢◌, ◌↔◌, ◌^◌, ℕ, List, min, Some, None, codes};
 ghost use Rattle.dc_model.specs.Draws.{draws_of};
-ghost use Rattle.dc_event.specs.Causes.{counted};
+ghost use Rattle.dc_event.specs.Causes.{counted, Fares};
 ghost use Rattle.dc_config.specs.Environment.{value_of};
 ghost use Rattle.dc_lookup.specs.Words as model;
 ghost use Rattle.dc_lookup.specs.Servers.{own_server};
 ghost use Rattle.dc_lookup.specs.Lookup.{opened};
 ghost use Rattle.dc_stub.specs.Look.{Looked};
-ghost use Rattle.dc_tools.specs.Ran.{bytes_of, AreServers};
+ghost use Rattle.dc_stub.specs.Begun.{bytes_of, AreServers};
+ghost use Rattle.dc_stub.specs.Faults.{files_well, output_well};
 
 use crate::tools::{Refusal, Tool};
 use dc_config::{Env, Files};
@@ -36,10 +37,8 @@ pub fn run<T: Tool, F: Files, K: Sink, W: World>(
         → (servers : List (List ℕ)) × AreServers (F.tree files.old) env.now servers
         × Looked W.history W.used_up W.broken K.gained world.old world.new sink.old sink.new
         T.tool (opened servers jobs) (draws_of seed) (min turns (2 ^ 60)) result }
-    ensures files_fault { result ≡ ToolStatus.FilesFault → F.faults files.new ≡ counted (F.faults files.old) }
-    ensures files_stay { result ≢ ToolStatus.FilesFault → F.faults files.new ≡ F.faults files.old }
-    ensures write_fault { result ≡ ToolStatus.WriteFault → K.faults sink.new ≡ counted (K.faults sink.old) }
-    ensures write_stays { result ≢ ToolStatus.WriteFault → K.faults sink.new ≡ K.faults sink.old }
+    ensures files_fare { Fares F.asked F.refused F.faults (files_well result) files.old files.new }
+    ensures sink_fares { Fares K.gained K.refused K.faults (output_well result) sink.old sink.new }
     ensures world_fault { result ≡ ToolStatus.WorldFault → W.faults world.new ≡ counted (W.faults world.old) }
     ensures world_stays { result ≢ ToolStatus.WorldFault → W.faults world.new ≡ W.faults world.old }
 {

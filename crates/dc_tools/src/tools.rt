@@ -2,7 +2,7 @@
 ghost use Rattle.std.specs.Prelude.{◌≡◌, ◌≢◌, [], ◌∷◌, map, option_map, Some, None, IfOk, IfErr};
 ghost use Rattle.dc_lookup.specs.Words as model;
 ghost use Rattle.dc_stub.specs.Look.{job_of};
-ghost use Rattle.dc_tools.specs.Ran.{bytes_of};
+ghost use Rattle.dc_stub.specs.Begun.{bytes_of};
 
 use crate::job::name_of;
 use crate::kind::kind_of;

@@ -2,7 +2,7 @@
 ghost use Rattle.std.specs.Prelude.{◌≡◌, ◌≢◌, ℕ, List, map, Some, None, IfOk, IfErr, true, false};
 ghost use Rattle.dc_lookup.specs.Words.{some_each};
 ghost use Rattle.dc_stub.specs.Look.{job_of};
-ghost use Rattle.dc_tools.specs.Ran.{bytes_of};
+ghost use Rattle.dc_stub.specs.Begun.{bytes_of};
 
 use crate::job::Word;
 use crate::tools::Refusal;

@@ -2,6 +2,7 @@ use Rattle.std.proofs.Common.{◌≡◌, sym, ap, ◌∙◌}
 use Rattle.dc_model.specs.Message.{Message}
 use Rattle.dc_model.proofs.MessageLemmas.{some_of}
 use Rattle.dc_lookup.specs.Text.{packet_text}
+use Rattle.dc_writer.proofs.Faring.{fared_both, whole_fares}
 use Rattle.dc_writer.proofs.Writing.{wrote_both, wrote_as, whole}
 use Rattle.dc_show.proofs.PartLemmas.{names_are, packet_is}
 use Rattle.dc_show.proofs.packet.show_packet.Goals as goal
@@ -14,5 +15,10 @@ returns-clause-whole g c m e =
     let b = g.met.K.Sink.gained_both in
     let same = some_of c.new-message.result m (sym c.new-message.ensures ∙ e) in
     let text = wrote_as _ _ b (packet_is c.args.name.now c.args.qtype c.args.packet.now c.new-message.result m same)
-    (wrote_both _ _ b (wrote_both _ _ b (wrote_both _ _ b (wrote_both _ _ b c.write_question.ensures c.put.ensures.wrote) c.write_asked.ensures) c.put-2.ensures.wrote) c.write_each.ensures) in
+    (wrote_both _ _ b (wrote_both _ _ b (wrote_both _ _ b (wrote_both _ _ b c.write_question.ensures.wrote c.put.ensures.wrote) c.write_asked.ensures.wrote) c.put-2.ensures.wrote) c.write_each.ensures.wrote) in
     (whole _ _ b c.new-writer.result c.finish.result c.new-writer.ensures text c.finish.ensures.flushed).0
+
+pub returns-clause-fares : goal.returns-clause-fares
+returns-clause-fares g c =
+    let b = g.met.K.Sink.gained_both in
+    whole_fares _ _ _ b c.new-writer.result c.finish.result _ _ c.new-writer.ensures (fared_both _ _ _ b _ _ c.write_question.ensures.wrote c.write_question.ensures.fared (fared_both _ _ _ b _ _ c.put.ensures.wrote c.put.ensures.fared (fared_both _ _ _ b _ _ c.write_asked.ensures.wrote c.write_asked.ensures.fared (fared_both _ _ _ b _ _ c.put-2.ensures.wrote c.put-2.ensures.fared (fared_both _ _ _ b _ _ c.write_each.ensures.wrote c.write_each.ensures.fared c.finish.ensures.fared)))))

@@ -1,6 +1,7 @@
 use Rattle.std.proofs.Common.{◌≡◌, sym, ◌∙◌, ap, Some, option_map}
 use Rattle.dc_model.specs.Message as model
 use Rattle.dc_lookup.specs.Text.{question_text}
+use Rattle.dc_writer.proofs.Faring.{fared_both}
 use Rattle.dc_writer.proofs.Writing.{wrote_both, wrote_as}
 use Rattle.dc_packet.specs.Question.{question_read}
 use Rattle.dc_packet.proofs.RowLemmas.{no_question}
@@ -13,9 +14,14 @@ unreachable-requires g c =
     let some = c.requires.message in
     cc
 
-pub returns : goal.returns
-returns g c =
+pub returns-clause-wrote : goal.returns-clause-wrote
+returns-clause-wrote g c =
     let b = g.met.K.Sink.gained_both in
     let is = question_is c.args.packet.now (question_read c.in-Some.question) c.args.message.now (sym c.question_of.ensures.question ∙ ap (option_map question_read) c.in-Some.is) c.requires.message in
-    let question = wrote_as _ _ b (ap (λ (q : model.Question). question_text q.kind q.name) (sym is)) c.write_question.ensures in
-    wrote_both _ _ b (wrote_both _ _ b c.write_header.ensures c.put.ensures.wrote) question
+    let question = wrote_as _ _ b (ap (λ (q : model.Question). question_text q.kind q.name) (sym is)) c.write_question.ensures.wrote in
+    wrote_both _ _ b (wrote_both _ _ b c.write_header.ensures.wrote c.put.ensures.wrote) question
+
+pub returns-clause-fared : goal.returns-clause-fared
+returns-clause-fared g c =
+    let b = g.met.K.Sink.gained_both in
+    fared_both _ _ _ b _ _ c.write_header.ensures.wrote c.write_header.ensures.fared (fared_both _ _ _ b _ _ c.put.ensures.wrote c.put.ensures.fared c.write_question.ensures.fared)

@@ -2,6 +2,7 @@ use Rattle.std.proofs.Common.{◌≡◌, sym, ap, ◌∙◌}
 use Rattle.dc_model.specs.Message.{Message}
 use Rattle.dc_lookup.specs.Text.{mx_text}
 use Rattle.dc_model.proofs.MessageLemmas.{some_of}
+use Rattle.dc_writer.proofs.Faring.{fared_both, whole_fares}
 use Rattle.dc_writer.proofs.Writing.{wrote_both, wrote_as, whole}
 use Rattle.dc_show.proofs.PartLemmas.{names_are}
 use Rattle.dc_show.proofs.show.show_mx.Goals as goal
@@ -13,5 +14,10 @@ pub returns-clause-whole : goal.returns-clause-whole
 returns-clause-whole g c m e =
     let b = g.met.K.Sink.gained_both in
     let same = some_of c.new-message.result m (sym c.new-message.ensures ∙ e) in
-    let text = wrote_as _ _ b (ap (λ (x : Message). mx_text c.args.name.now x) same) (c.write_exchanges.ensures) in
+    let text = wrote_as _ _ b (ap (λ (x : Message). mx_text c.args.name.now x) same) (c.write_exchanges.ensures.wrote) in
     (whole _ _ b c.new-writer.result c.finish.result c.new-writer.ensures text c.finish.ensures.flushed).0
+
+pub returns-clause-fares : goal.returns-clause-fares
+returns-clause-fares g c =
+    let b = g.met.K.Sink.gained_both in
+    whole_fares _ _ _ b c.new-writer.result c.finish.result _ _ c.new-writer.ensures (fared_both _ _ _ b _ _ c.write_exchanges.ensures.wrote c.write_exchanges.ensures.fared c.finish.ensures.fared)

@@ -10,8 +10,8 @@ use Rattle.dc_serve.specs.Serve.{each_passes}
 use Rattle.dc_serve.specs.declared.Served.TheVariants as served
 use Rattle.dc_lookup.specs.Filter.{Filter}
 use Rattle.dc_filter.specs.Sifter.{Sifter, sifter_machine}
-use Rattle.dc_sieve.specs.declared.status.SieveStatus.TheVariants as status
-use Rattle.dc_sieve.specs.Sifted.{further}
+use Rattle.dc_stub.specs.declared.status.ToolStatus.TheVariants as status
+use Rattle.dc_stub.specs.Word.{further}
 use Rattle.dc_sieve.proofs.SiftLemmas.{sifting_begins, settle_step, serve_step, sifted_done, sifted_on, sifted_part, long_is, not_by, waits_by, served_as, some_events, fits, fits_left}
 use Rattle.dc_sieve.proofs.sifting.sift.Goals as goal
 

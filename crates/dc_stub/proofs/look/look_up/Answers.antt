@@ -1,17 +1,18 @@
-use Rattle.std.proofs.Common.{◌≡◌, ◌≢◌, ℕ, ◌+◌, List, map, drop, refl, ap, ◌∙◌, arith}
+use Rattle.std.proofs.Common.{◌≡◌, ◌≢◌, ℕ, ◌+◌, ◌++◌, List, map, drop, refl, ap, ◌∙◌, arith}
+use Rattle.dc_event.specs.Causes.{failed_behind, fares_behind}
 use Rattle.dc_draws.specs.Drawn.{Drawn}
 use Rattle.dc_model.specs.Draws.{draws_of}
 use Rattle.dc_stub.specs.Word.{own_text}
 use Rattle.dc_stub.specs.Look.{job_of}
 use Rattle.dc_stub.specs.declared.look.Job.TheVariants.{Says, Asks}
 use Rattle.dc_stub.specs.declared.status.ToolStatus.{ToolStatus}
-use Rattle.dc_stub.specs.declared.status.ToolStatus.TheVariants.{Done, WriteFault, WorldFault}
+use Rattle.dc_stub.specs.declared.status.ToolStatus.TheVariants.{Done, WorldFault}
+use Rattle.dc_stub.specs.Faults.{output_well}
+use Rattle.dc_stub.proofs.FaringLemmas.{done_fares}
 use Rattle.dc_stub.proofs.PassLemmas.{nothing_yet, said_at, front_at, asked_at, ends_at, rest_is}
 use Rattle.dc_stub.proofs.look.look_up.Goals as goal
 
--- Done is neither fault.
-done_is : (x : ToolStatus) → x ≡ Done → x ≢ WriteFault
-done_is x h w = cc
+-- Done is no fault.
 
 done_is_not : (x : ToolStatus) → x ≡ Done → x ≢ WorldFault
 done_is_not x h w = cc
@@ -35,7 +36,7 @@ jobs-preserved-in-Taken g c =
           c.in-Taken.ensures.whole,
       so.1,
       so.2,
-      c.in-Taken.ensures.count ∙ so.3,
+      c.in-Taken.ensures.fares ∙ so.3,
       so.4,
     )
 
@@ -65,6 +66,17 @@ jobs-preserved g c =
           all so.0 (ap (λ (x : List ℕ). draws_of x) so.1) so.2 run.1.0 (c.is_done.ensures.done c.if-is_done.true) run.1.1.1,
       ap (λ (d : Drawn). d.seed) run.1.1.0 ∙ so.1,
       omega (arith, so.2, ap (λ (d : Drawn). d.given) run.1.1.0, run.1.1.1),
-      c.ask_word-status.ensures.write_stays (done_is c.ask_word-status.result (c.is_done.ensures.done c.if-is_done.true)) ∙ so.3,
+      done_fares g.K.Sink.gained g.K.Sink.refused g.K.Sink.faults c.ask_word-status.result _ _ (c.is_done.ensures.done c.if-is_done.true) c.ask_word-status.ensures.sink_fares ∙ so.3,
       c.ask_word-status.ensures.world_stays (done_is_not c.ask_word-status.result (c.is_done.ensures.done c.if-is_done.true)) ∙ so.4,
     )
+
+pub returns-in-Failed-clause-sink_fares : goal.returns-in-Failed-clause-sink_fares
+returns-in-Failed-clause-sink_fares g c =
+    let so = c.jobs.invariant in
+    failed_behind g.K.Sink.gained g.met.K.Sink.gained_both g.K.Sink.refused g.K.Sink.faults c.args.sink.now c.jobs.sink c.say.new.sink (so.0.told ++ so.0.said) so.0.put so.3 c.in-Failed.ensures.fares
+
+pub returns-else-is_done-clause-sink_fares : goal.returns-else-is_done-clause-sink_fares
+returns-else-is_done-clause-sink_fares g c =
+    let so = c.jobs.invariant in
+    fares_behind g.K.Sink.gained g.met.K.Sink.gained_both g.K.Sink.refused g.K.Sink.faults (output_well c.ask_word-status.result) c.args.sink.now c.jobs.sink c.ask_word-status.new.sink
+    (so.0.told ++ so.0.said) so.0.put so.3 c.ask_word-status.ensures.sink_fares

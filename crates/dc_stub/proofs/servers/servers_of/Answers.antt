@@ -1,6 +1,7 @@
 use Rattle.std.proofs.Common.{List, ℕ, Option, Some, None, ap, sym, ◌∙◌}
 use Rattle.std.specs.Prelude.{codes}
 use Rattle.dc_model.specs.Places.{places_of}
+use Rattle.dc_event.specs.Causes.{failed_now}
 use Rattle.dc_config.specs.Environment.{value_of}
 use Rattle.dc_lookup.specs.Servers.{or_own, servers_in}
 use Rattle.dc_stub.proofs.ServerLemmas.{of_variable, of_file, variable_there, file_there}
@@ -29,3 +30,6 @@ returns-in-Bytes-clause-place g c = file_there (value_of (codes "DNSCACHEIP") c.
 pub returns-in-Absent-clause-place : goal.returns-in-Absent-clause-place
 returns-in-Absent-clause-place g c =
     file_there (value_of (codes "DNSCACHEIP") c.args.env.now) None c.read_nameservers-in-Absent.result (sym c.own_server.ensures ∙ c.in_default.is) c.read_nameservers-in-Absent.ensures
+
+pub returns-in-Failed-clause-fares : goal.returns-in-Failed-clause-fares
+returns-in-Failed-clause-fares g c = failed_now g.F.Files.asked g.met.F.Files.asked_none g.F.Files.refused g.F.Files.faults _ _ c.in-Failed.ensures.failed c.in-Failed.ensures.count

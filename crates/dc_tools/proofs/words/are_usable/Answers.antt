@@ -2,7 +2,7 @@ use Rattle.std.proofs.Common.{◌≡◌, ◌≢◌, ◌≤◌, ◌<◌, ◌+◌,
 use Rattle.std.specs.Prelude.{option_map, string_bytes}
 use Rattle.std.proofs.lemmas.Grind.{common_steps}
 use Rattle.dc_stub.specs.Look.{job_of}
-use Rattle.dc_tools.specs.Ran.{bytes_of}
+use Rattle.dc_stub.specs.Begun.{bytes_of}
 use Rattle.dc_tools.proofs.JobLemmas.{so_far_first, so_far_more, so_far_none, so_far_done, some_are, no_jobs, some_not, rest_is, rest_none}
 use Rattle.dc_tools.proofs.words.are_usable.Goals as goal
 

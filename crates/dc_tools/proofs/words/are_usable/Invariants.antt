@@ -1,6 +1,6 @@
 use Rattle.std.proofs.Common.{List, length, ◌-◌, drop}
 use Rattle.dc_lookup.specs.Words.{Job}
-use Rattle.dc_tools.specs.Ran.{bytes_of}
+use Rattle.dc_stub.specs.Begun.{bytes_of}
 use Rattle.dc_tools.proofs.JobLemmas.{IsSoFar}
 use Rattle.dc_tools.proofs.words.are_usable.Given as goal
 

@@ -3,7 +3,7 @@ use Rattle.std.specs.Prelude.{option_map, string_bytes}
 use Rattle.std.proofs.lemmas.Grind.{common_steps}
 use Rattle.dc_lookup.specs.Words.{some_each}
 use Rattle.dc_stub.specs.Look.{job_of}
-use Rattle.dc_tools.specs.Ran.{bytes_of}
+use Rattle.dc_stub.specs.Begun.{bytes_of}
 use Rattle.dc_tools.proofs.JobLemmas.{so_far_none, so_far_done, some_are, some_long, rest_is, rest_none}
 use Rattle.dc_tools.proofs.words.jobs_of_each.Goals as goal
 

@@ -1,6 +1,6 @@
 use Rattle.std.proofs.Common.{length, ◌-◌, map, drop}
 use Rattle.dc_stub.specs.Look.{job_of}
-use Rattle.dc_tools.specs.Ran.{bytes_of}
+use Rattle.dc_stub.specs.Begun.{bytes_of}
 use Rattle.dc_tools.proofs.JobLemmas.{IsSoFar}
 use Rattle.dc_tools.proofs.words.jobs_of_each.Given as goal
 
