@@ -1,1 +1,4 @@
 pub mod RecordLemmas
+pub mod Saying
+pub mod HeadPieces
+pub mod PlainLemmas

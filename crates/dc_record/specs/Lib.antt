@@ -1,1 +1,4 @@
 pub mod Recorded
+pub mod HeadOf
+pub mod HeadLines
+pub mod Plain

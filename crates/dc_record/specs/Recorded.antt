@@ -1,14 +1,17 @@
 -- A world whose events are recorded.
-use Rattle.std.specs.Prelude.{◌≡◌, ℕ, Bool, true, false, List, [], ◌∷◌, ◌++◌, flat_map, Option, refl}
+use Rattle.std.specs.Prelude.{◌≡◌, ◌<◌, ℕ, Bool, true, false, List, [], ◌∷◌, ◌++◌, flat_map, slice_index, Option, refl}
+use Rattle.std.specs.List.{AllByRecursion}
 use Rattle.std.proofs.Common.{◌∙◌, sym, ap, subst, append_assoc}
 use Rattle.std.proofs.lemmas.List.{append-nil}
 use Rattle.std.proofs.lemmas.Grind.{flat_map-append}
 use Rattle.dc_model.specs.Event.{Event, Action}
 use Rattle.dc_event.specs.Told.{BeginsWith, GainedFront}
-use Rattle.dc_event.specs.History.{Exchange, listened, asked, gathered, did, Answer, gave, failed, events_in, done_all, events-both, events-done}
+use Rattle.dc_event.specs.Causes.{FailedLast, counted}
+use Rattle.dc_event.specs.History.{Exchange, listened, asked, gathered, did, gave, ended, failed, bad, events_in, done_all, events-both, events-done}
 use Rattle.dc_event.specs.declared.answers.Heard.{Heard}
 use Rattle.dc_event.specs.declared.answers.Heard.TheVariants as heard
 use Rattle.dc_script.specs.Recording.{event_line}
+use Rattle.dc_script.specs.Fated.{Fated, Fated-none, Fated-both}
 
 -- The world that is recorded, the sink, whether a write has failed, and how often the recorded world has.
 pub record Recorder (W K : Type 0) : Type 0 where
@@ -21,6 +24,10 @@ pub record Recorder (W K : Type 0) : Type 0 where
 abbrev pub lines_of : List Event → List ℕ
 lines_of es = flat_map event_line es
 
+-- The address of an event is of octets.
+abbrev pub HasOctets : Event → Type 0
+HasOctets e = (i : ℕ) → slice_index e.addr i < 256
+
 -- What passes without the calls of `next`.
 abbrev pub unasked : List Exchange → List Exchange
 unasked [] = []
@@ -28,6 +35,22 @@ unasked (listened addr from well ∷ h) = listened addr from well ∷ unasked h
 unasked (asked wake a ∷ h) = unasked h
 unasked (gathered e ∷ h) = gathered e ∷ unasked h
 unasked (did x ∷ h) = did x ∷ unasked h
+
+-- How often a world has failed behind what passed: each call that failed counts.
+
+abbrev pub count_in : Exchange → ℕ → ℕ
+count_in (listened addr from true) n = n
+count_in (listened addr from false) n = counted n
+count_in (asked wake (gave e)) n = n
+count_in (asked wake ended) n = n
+count_in (asked wake failed) n = counted n
+count_in (asked wake (bad k)) n = n
+count_in (gathered e) n = n
+count_in (did x) n = n
+
+abbrev pub counts_in : List Exchange → ℕ → ℕ
+counts_in [] n = n
+counts_in (x ∷ h) n = counts_in h (count_in x n)
 
 -- A write failed within a history: the inner world gave one more event, of whose line a front was written, and that call of `next` failed;
 -- what came behind it had no event and asked the inner world for none.
@@ -51,13 +74,18 @@ Tells false true h inner text = Stopped h inner text
 Tells true true h inner text = (inner ≡ unasked h) × (text ≡ []) × (events_in h ≡ [])
 Tells true false h inner text = ⊥
 
--- This passed between two states.
-pub record Passed {W K : Type 0} (history : W → List Exchange → W → Type 0) (gained : K → List ℕ → K → Type 0) (old : Recorder W K) (h : List Exchange) (new : Recorder W K) : Type 0 where
+-- This passed between two states. The inner world counted each of its calls that failed. Where a write failed, that call was the sink's last.
+-- The addresses of the events are of octets.
+pub record Passed {W K : Type 0} (history : W → List Exchange → W → Type 0) (faults : W → ℕ) (gained : K → List ℕ → K → Type 0) (refused : K → K → Type 0) (count : K → ℕ) (old : Recorder W K) (h : List Exchange)
+    (new : Recorder W K) : Type 0 where
   pub inner : List Exchange
   pub text : List ℕ
   pub passed : history old.world inner new.world
+  pub counts : faults new.world ≡ counts_in inner (faults old.world)
   pub written : gained old.sink text new.sink
   pub tells : Tells old.failed new.failed h inner text
+  pub fated : Fated gained refused count old.failed new.failed old.sink new.sink
+  pub octets : AllByRecursion HasOctets (events_in h)
 
 -- These actions were done between two states.
 pub record Acted {W K : Type 0} (acted : W → List Action → W → Type 0) (old : Recorder W K) (xs : List Action) (new : Recorder W K) : Type 0 where
@@ -66,12 +94,14 @@ pub record Acted {W K : Type 0} (acted : W → List Action → W → Type 0) (ol
   pub failed_is : new.failed ≡ old.failed
   pub faults : new.faults ≡ old.faults
 
--- The line of an event was written, or a front of it where that failed.
-abbrev pub Wrote : {W K : Type 0} → (K → List ℕ → K → Type 0) → Heard → Event → (old new : Recorder W K) → Type 0
-Wrote gained heard.Event e old new = gained old.sink (event_line e) new.sink × (new ≡ record old { sink = new.sink })
-Wrote gained heard.Failed e old new = GainedFront gained old.sink (event_line e) new.sink × (new ≡ record old { sink = new.sink; failed = true })
-Wrote gained heard.End e old new = ⊥
-Wrote gained (heard.Bad k) e old new = ⊥
+-- The line of an event was written, and no call of the sink failed; or a front of the line where one did, which was the last.
+abbrev pub Wrote : {W K : Type 0} → (K → List ℕ → K → Type 0) → (K → K → Type 0) → (K → ℕ) → Heard → Event → (old new : Recorder W K) → Type 0
+Wrote gained refused count heard.Event e old new =
+    gained old.sink (event_line e) new.sink × (count new.sink ≡ count old.sink) × HasOctets e × (new ≡ record old { sink = new.sink })
+Wrote gained refused count heard.Failed e old new =
+    GainedFront gained old.sink (event_line e) new.sink × FailedLast gained refused count old.sink new.sink × (new ≡ record old { sink = new.sink; failed = true })
+Wrote gained refused count heard.End e old new = ⊥
+Wrote gained refused count (heard.Bad k) e old new = ⊥
 
 -- Laws
 
@@ -84,6 +114,14 @@ unasked_both (listened addr from well ∷ g) h = ap (λ (l : List Exchange). lis
 unasked_both (asked wake a ∷ g) h = unasked_both g h
 unasked_both (gathered e ∷ g) h = ap (λ (l : List Exchange). gathered e ∷ l) (unasked_both g h)
 unasked_both (did x ∷ g) h = ap (λ (l : List Exchange). did x ∷ l) (unasked_both g h)
+
+pub counts_both : (g h : List Exchange) (n : ℕ) → counts_in (g ++ h) n ≡ counts_in h (counts_in g n)
+counts_both [] h n = refl
+counts_both (x ∷ g) h n = counts_both g h (count_in x n)
+
+counts_done : (xs : List Action) (n : ℕ) → counts_in (done_all xs) n ≡ n
+counts_done [] n = refl
+counts_done (x ∷ xs) n = counts_done xs n
 
 unasked_done : (xs : List Action) → unasked (done_all xs) ≡ done_all xs
 unasked_done [] = refl
@@ -135,19 +173,43 @@ tells_done true true xs e = (sym (unasked_done xs), refl, events-done xs)
 tells_done false true xs e = cc
 tells_done true false xs e = cc
 
-module _ {W K : Type 0} (history : W → List Exchange → W → Type 0) where
-  pub Passed-none : (none : (a : W) → history a [] a) (gained : K → List ℕ → K → Type 0) (gained_none : (a : K) → gained a [] a) (a : Recorder W K) → Passed history gained a [] a
-  Passed-none none gained gained_none a = record { inner = []; text = []; passed = none a.world; written = gained_none a.sink; tells = tells_none a.failed }
+octets_both : (es fs : List Event) → AllByRecursion HasOctets es → AllByRecursion HasOctets fs → AllByRecursion HasOctets (es ++ fs)
+octets_both [] fs p q = q
+octets_both (e ∷ es) fs p q = (p.0, octets_both es fs p.1 q)
+
+-- Nothing was done to a sink.
+fated_still : {K : Type 0} (gained : K → List ℕ → K → Type 0) (refused : K → K → Type 0) (count : K → ℕ) (f g : Bool) (old new : K) → g ≡ f → new ≡ old → Fated gained refused count f g old new
+fated_still gained refused count false false old new e s = ap count s
+fated_still gained refused count true true old new e s = s
+fated_still gained refused count false true old new e s = cc
+fated_still gained refused count true false old new e s = cc
+
+module _ {W K : Type 0} (history : W → List Exchange → W → Type 0) (faults : W → ℕ) where
+  pub Passed-none : (none : (a : W) → history a [] a) (gained : K → List ℕ → K → Type 0) (gained_none : (a : K) → gained a [] a) (refused : K → K → Type 0) (count : K → ℕ) (a : Recorder W K)
+      → Passed history faults gained refused count a [] a
+  Passed-none none gained gained_none refused count a = record {
+    inner = [];
+    text = [];
+    passed = none a.world;
+    counts = refl;
+    written = gained_none a.sink;
+    tells = tells_none a.failed;
+    fated = Fated-none gained refused count a.failed a.sink;
+    octets = tt;
+  }
 
   pub Passed-both : (both : (a b c : W) (g h : List Exchange) → history a g b → history b h c → history a (g ++ h) c) (gained : K → List ℕ → K → Type 0)
-      (gained_both : (a b c : K) (xs ys : List ℕ) → gained a xs b → gained b ys c → gained a (xs ++ ys) c) (a b c : Recorder W K) (g h : List Exchange)
-      → Passed history gained a g b → Passed history gained b h c → Passed history gained a (g ++ h) c
-  Passed-both both gained gained_both a b c g h p q = record {
+      (gained_both : (a b c : K) (xs ys : List ℕ) → gained a xs b → gained b ys c → gained a (xs ++ ys) c) (refused : K → K → Type 0) (count : K → ℕ) (a b c : Recorder W K)
+      (g h : List Exchange) → Passed history faults gained refused count a g b → Passed history faults gained refused count b h c → Passed history faults gained refused count a (g ++ h) c
+  Passed-both both gained gained_both refused count a b c g h p q = record {
     inner = p.inner ++ q.inner;
     text = p.text ++ q.text;
     passed = both a.world b.world c.world p.inner q.inner p.passed q.passed;
+    counts = q.counts ∙ ap (counts_in q.inner) p.counts ∙ sym (counts_both p.inner q.inner (faults a.world));
     written = gained_both a.sink b.sink c.sink p.text q.text p.written q.written;
     tells = tells_both a.failed b.failed c.failed g h p.inner q.inner p.text q.text p.tells q.tells;
+    fated = Fated-both gained refused count gained_both a.failed b.failed c.failed a.sink b.sink c.sink p.text (λ e f. p.written) p.fated q.fated;
+    octets = subst (λ es. AllByRecursion HasOctets es) (sym (events-both g h)) (octets_both (events_in g) (events_in h) p.octets q.octets);
   }
 
 module _ {W K : Type 0} (acted : W → List Action → W → Type 0) where
@@ -163,14 +225,18 @@ module _ {W K : Type 0} (acted : W → List Action → W → Type 0) where
     faults = q.faults ∙ p.faults;
   }
 
-  pub Acted-passed : (history : W → List Exchange → W → Type 0) (passes : (a b : W) (xs : List Action) → acted a xs b → history a (done_all xs) b) (gained : K → List ℕ → K → Type 0)
-      (gained_none : (a : K) → gained a [] a) (a b : Recorder W K) (xs : List Action) → Acted acted a xs b → Passed history gained a (done_all xs) b
-  Acted-passed history passes gained gained_none a b xs p = record {
+  pub Acted-passed : (history : W → List Exchange → W → Type 0) (passes : (a b : W) (xs : List Action) → acted a xs b → history a (done_all xs) b) (faults : W → ℕ)
+      (still : (a b : W) (xs : List Action) → acted a xs b → faults b ≡ faults a) (gained : K → List ℕ → K → Type 0) (gained_none : (a : K) → gained a [] a) (refused : K → K → Type 0) (count : K → ℕ) (a b : Recorder W K) (xs : List Action) → Acted acted a xs b
+      → Passed history faults gained refused count a (done_all xs) b
+  Acted-passed history passes faults still gained gained_none refused count a b xs p = record {
     inner = done_all xs;
     text = [];
     passed = passes a.world b.world xs p.done;
+    counts = still a.world b.world xs p.done ∙ sym (counts_done xs (faults a.world));
     written = subst (λ s. gained a.sink [] s) (sym p.sink) (gained_none a.sink);
     tells = tells_done a.failed b.failed xs p.failed_is;
+    fated = fated_still gained refused count a.failed b.failed a.sink b.sink p.failed_is p.sink;
+    octets = subst (λ es. AllByRecursion HasOctets es) (sym (events-done xs)) tt;
   }
 
   pub Acted-faults : (a b : Recorder W K) (xs : List Action) → Acted acted a xs b → b.faults ≡ a.faults

@@ -12,7 +12,8 @@ use std::marker::Model;
 
 /// A world over another world and a sink. It hands out what the other gives, and writes the line of each event before it answers.
 ///
-/// Once a write has failed, that call of `next` and every later one answer `Failed`, and the other world is asked for nothing more.
+/// Once a write has failed, that call of `next` and every later one answer `Failed`, the other world is asked for nothing more, and the failed
+/// call is the sink's last.
 #[derive(Drop)]
 pub struct RecordWorld<W: World, K: Sink> {
     world: W,
@@ -67,7 +68,7 @@ impl<W: World, K: Sink> RecordWorld<W, K> {
     /// Writes the line of an event that was given, and answers it, or that this failed.
     fn write(&mut self, inbox: &Inbox) -> Heard
         requires { self.old.failed ≡ false }
-        ensures { Wrote K.gained result inbox.now self.old self.new }
+        ensures { Wrote K.gained K.refused K.faults result inbox.now self.old self.new }
     {
         match write_event(&mut self.sink, inbox.event(), inbox.bytes()) {
             Put::Taken(_) => Heard::Event,
@@ -81,7 +82,7 @@ impl<W: World, K: Sink> RecordWorld<W, K> {
     /// The next event, where no write has failed.
     fn hear(&mut self, wake: Option<u64>, inbox: &mut Inbox) -> Heard
         requires { self.old.failed ≡ false }
-        ensures history { Passed W.history K.gained self.old (asked wake (answer_by result inbox.new) ∷ []) self.new }
+        ensures history { Passed W.history W.faults K.gained K.refused K.faults self.old (asked wake (answer_by result inbox.new) ∷ []) self.new }
         ensures faults { self.new.faults ≡ self.old.faults }
         ensures warrant { Warrants result inbox.new (W.used_up self.new.world) (W.broken self.new.world) }
     {
@@ -133,7 +134,7 @@ impl<W: World, K: Sink> Effects for RecordWorld<W, K> {
 }
 
 impl<W: World, K: Sink> World for RecordWorld<W, K> {
-    ghost history = { Passed W.history K.gained };
+    ghost history = { Passed W.history W.faults K.gained K.refused K.faults };
 
     ghost faults = { λ w. w.faults };
 
@@ -165,11 +166,11 @@ impl<W: World, K: Sink> World for RecordWorld<W, K> {
         self.faults
     }
 
-    ghost history_none = { Passed-none W.history W.history_none K.gained K.gained_none };
+    ghost history_none = { Passed-none W.history W.faults W.history_none K.gained K.gained_none K.refused K.faults };
 
-    ghost history_both = { Passed-both W.history W.history_both K.gained K.gained_both };
+    ghost history_both = { Passed-both W.history W.faults W.history_both K.gained K.gained_both K.refused K.faults };
 
-    ghost acted_history = { Acted-passed W.acted W.history W.acted_history K.gained K.gained_none };
+    ghost acted_history = { Acted-passed W.acted W.history W.acted_history W.faults W.acted_faults K.gained K.gained_none K.refused K.faults };
 
     ghost acted_faults = { Acted-faults W.acted };
 }

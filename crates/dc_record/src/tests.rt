@@ -21,9 +21,10 @@ at 0 conndown 7
 /// A world of these events, which are recorded to a sink with so much room.
 fn recorded(
     alloc: Global,
+    events: &[u8],
     room: usize,
 ) -> Result<RecordWorld<ScriptWorld<MemorySource, MemorySink>, MemorySink>, AllocError> {
-    let mut script = EVENTS.to_vec(alloc)?;
+    let mut script = events.to_vec(alloc)?;
     script.extend_from_slice(b"end\n")?;
     let source = MemorySource::new(script, 64, Vec::new(alloc));
     let log = MemorySink::new(alloc, 100, Vec::new(alloc))?;
@@ -36,7 +37,7 @@ fn recorded(
 fn events_are_written_as_they_were(rt: HostRuntime) -> Result<(), Fail> {
     let alloc: Global = rt.alloc();
     let mut inbox = Inbox::new(alloc)?;
-    let mut world = recorded(alloc, 1000)?;
+    let mut world = recorded(alloc, EVENTS, 1000)?;
     for _ in 0..10 {
         assert!(rt; world.next(None, &mut inbox) == Heard::Event);
     }
@@ -51,7 +52,7 @@ fn events_are_written_as_they_were(rt: HostRuntime) -> Result<(), Fail> {
 fn nothing_comes_behind_a_failed_write(rt: HostRuntime) -> Result<(), Fail> {
     let alloc: Global = rt.alloc();
     let mut inbox = Inbox::new(alloc)?;
-    let mut world = recorded(alloc, 20)?;
+    let mut world = recorded(alloc, EVENTS, 20)?;
     assert!(rt; world.next(None, &mut inbox) == Heard::Event);
     assert!(rt; world.next(None, &mut inbox) == Heard::Failed);
     assert!(rt; world.next(None, &mut inbox) == Heard::Failed);

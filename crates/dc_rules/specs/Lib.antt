@@ -4,3 +4,4 @@ pub mod Held
 pub mod Allowed
 pub mod Lines
 pub mod Settings
+pub mod Leading

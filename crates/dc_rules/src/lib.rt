@@ -14,4 +14,4 @@ pub use error::{PermitError, ZoneError};
 pub use permit::Permit;
 pub use servers::{address_in, if_filled, read_servers};
 pub use std::alloc::AllocError as NoMemory;
-pub use zones::{Rule, Zones};
+pub use zones::{Rule, Zone, Zones};

@@ -1,5 +1,6 @@
 //! Who may ask.
-ghost use Rattle.std.specs.Prelude.{◌≡◌, [], IfOk, OnErr, MatchResult};
+ghost use Rattle.std.specs.List.{AllByRecursion};
+ghost use Rattle.std.specs.Prelude.{◌≡◌, ◌≤◌, [], length, map, IfOk, OnErr, MatchResult};
 ghost use Rattle.dc_model.specs.Rules.{add_permit, permitted};
 ghost use Rattle.dc_rules.specs.Refusals.{permit_refusal};
 
@@ -58,6 +59,15 @@ impl Permit {
         }
         self.places.push(found).unwrap();
         Ok(())
+    }
+
+    /// The octets of each permission, one to four, in the order in which they were added.
+    pub fn as_slice(&self) -> &[ArrayVec<u8, 4>]
+        ensures octets { map (λ p. p.items) result.now ≡ self.now }
+        ensures each { AllByRecursion (λ o. (1 ≤ length o) × (length o ≤ 4)) self.now }
+        ensures most { length result.now ≤ 4096 }
+    {
+        &self.places
     }
 
     /// Whether the address or its first three, two or one octets were added.

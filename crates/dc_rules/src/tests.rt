@@ -62,6 +62,23 @@ fn zones_are_found(rt: HostRuntime) -> Result<(), Fail> {
 }
 
 #[test]
+fn the_root_is_put_first(rt: HostRuntime) -> Result<(), Fail> {
+    let mut zones = Zones::new(rt.alloc())?;
+    let names: [&[u8]; 4] = [b"10.in-addr.arpa", b"com", b".", b"org"];
+    for (at, name) in names.iter().enumerate() {
+        let server = only([198, 51, 100, at as u8]);
+        assert!(rt; zones.add(&name_of(&rt, name), &server).is_ok());
+    }
+    zones.put_root_first();
+    let order: [(&[u8], u8); 4] = [(b".", 2), (b"10.in-addr.arpa", 0), (b"com", 1), (b"org", 3)];
+    for (zone, (name, last)) in zones.as_slice().iter().zip(order) {
+        assert!(rt; zone.name().same(&name_of(&rt, name)));
+        assert!(rt; *zone.servers() == only([198, 51, 100, last]));
+    }
+    Ok(())
+}
+
+#[test]
 fn zones_that_are_refused(rt: HostRuntime) -> Result<(), Fail> {
     let mut zones = Zones::new(rt.alloc())?;
     let server = only([198, 51, 100, 1]);

@@ -2,11 +2,12 @@
 ghost use Rattle.std.specs.List.{AllByRecursion};
 ghost use Rattle.std.specs.Prelude.{length};
 ghost use Rattle.dc_model.specs.Rules.{Zone as ZoneModel};
-ghost use Rattle.std.specs.Prelude.{◌≡◌, ◌++◌, option_map, IfOk, OnErr, MatchResult};
+ghost use Rattle.std.specs.Prelude.{◌≡◌, ◌++◌, ◌≤◌, [], option_map, IfOk, OnErr, MatchResult, MatchOption};
 ghost use Rattle.std.specs.Option.{option_copied};
 ghost use Rattle.std.specs.List.{find};
 ghost use Rattle.dc_model.specs.Name as model;
 ghost use Rattle.dc_model.specs.Rules.{no_zones, add_zone, is_named, is_zone, servers, nearest, same_zone, in_zone};
+ghost use Rattle.dc_rules.specs.Leading.{led, root_first, LedBy};
 ghost use Rattle.dc_rules.specs.Refusals.{zone_refusal, rule_of};
 ghost use Rattle.dc_rules.specs.Table.{zone_at, table_of, IsEnd};
 
@@ -32,6 +33,22 @@ pub enum Rule {
 pub struct Zone {
     name: Name,
     servers: [[u8; 4]; 16],
+}
+
+impl Zone {
+    /// Its name, as it was added.
+    pub fn name(&self) -> &Name
+        ensures name { result.now ≡ self.now.name }
+    {
+        &self.name
+    }
+
+    /// The places of its servers, where 0.0.0.0 stands in an empty one.
+    pub fn servers(&self) -> &[[u8; 4]; 16]
+        ensures servers { result.now ≡ self.now.servers }
+    {
+        &self.servers
+    }
 }
 
 /// Up to 256 zones that have servers of their own, and the rule (after djbdns' roots.c). It takes its memory in `new`.
@@ -62,6 +79,18 @@ fn find_zone<'a>(zones: &'a [Zone], name: &Suffix<'_>) -> Option<&'a Zone>
     for zone in zones {
         if zone.name.suffix().same(name) {
             return Some(zone);
+        }
+    }
+    None
+}
+
+/// The number of the first zone that is the root, counted from 0. `None` comes exactly where no zone is.
+fn root_at(zones: &[Zone]) -> Option<usize>
+    ensures { MatchOption result (led [] (table_of zones.now) ≡ table_of zones.now) (λ at. LedBy at (table_of zones.now)) }
+{
+    for (at, zone) in zones.iter().enumerate() {
+        if zone.name.suffix().is_root() {
+            return Some(at);
         }
     }
     None
@@ -164,6 +193,25 @@ impl Zones {
         ensures { result ≡ in_zone self.now zone.now name.now }
     {
         name.under(zone) && self.same_zone(name, zone)
+    }
+
+    /// The zones, in the order in which they were added.
+    pub fn as_slice(&self) -> &[Zone]
+        ensures zones { table_of result.now ≡ self.now.configured }
+        ensures most { length result.now ≤ 256 }
+    {
+        &self.zones
+    }
+
+    /// Puts the first zone that is the root before all others, which keep their order. Each name has the servers that it had.
+    pub fn put_root_first(&mut self)
+        ensures first { self.new ≡ root_first self.old }
+        ensures servers { (n : model.Name) → servers self.new n ≡ servers self.old n }
+    {
+        if let Some(at) = root_at(&self.zones) {
+            let zone = self.zones.remove(at);
+            self.zones.insert(0, zone).unwrap();
+        }
     }
 
     /// Sets the rule. The zones stay.

@@ -4,7 +4,8 @@ use Rattle.std.proofs.Math.Seq.{take-append_seam}
 use Rattle.std.proofs.lemmas.Grind.{common_steps}
 use Rattle.std.proofs.lemmas.List.{append-nil}
 use Rattle.dc_event.specs.Causes.{counted}
-use Rattle.dc_event.specs.History.{Answer, failed, Exchange, listened, asked, gathered, did, event_by, events_in, actions_in, wakes_in}
+use Rattle.dc_model.specs.Event.{Event}
+use Rattle.dc_event.specs.History.{Answer, failed, Exchange, listened, asked, gathered, gathered_by, did, event_by, events_in, actions_in, wakes_in}
 use Rattle.dc_script.specs.Faulty.{Faulty, FaultyPassed, is_named, calls_by, fails_at, IsFailed, FailsWhere, with_wake, wakes_by, wakes_kept, reached, HaveFailed}
 
 -- Those that failed hide neither events nor actions.
@@ -106,6 +107,16 @@ module _ {W : Type 0} (history : W → List Exchange → W → Type 0) where
       let inner : inside.world ≡ old.world = ap {A = Faulty W} (λ w. w.world) counts in
       subst (λ (w : Faulty W). FaultyPassed history old (asked wake a ∷ []) w) (sym whole)
       (reached_one history old world (asked wake a) named (sym named_old) is (subst (λ w. history w (asked wake a ∷ []) world) inner h) refl)
+
+  -- A further event comes from the inner world.
+
+  more_within : (old : Faulty W) (world : W) (b : Bool) (e : Event) → history old.world (gathered_by b e) world → FaultyPassed history old (gathered_by b e) (record old { world = world })
+  more_within old world true e h = record { within = h; failures = (tt, tt); fails = refl; calls = refl; missed = refl; wakes = refl }
+  more_within old world false e h = record { within = h; failures = tt; fails = refl; calls = refl; missed = refl; wakes = refl }
+
+  pub more_reached : (old inside : Faulty W) (world : W) (b : Bool) (e : Event) → inside ≡ old → history inside.world (gathered_by b e) world
+      → FaultyPassed history old (gathered_by b e) (record inside { world = world })
+  more_reached old inside world b e is h = subst (λ (w : Faulty W). FaultyPassed history w (gathered_by b e) (record inside { world = world })) is (more_within inside world b e h)
 
 -- One more wake, of at most 64.
 

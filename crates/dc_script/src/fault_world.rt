@@ -1,14 +1,18 @@
 //! A recorded world of which given calls fail.
 ghost use Rattle.std.specs.Prelude.{◌≡◌, ℕ, ◌+◌, ◌-◌, ◌^◌, List, [], ◌∷◌, min, cond, Option};
+ghost use Rattle.dc_model.specs.Event.{IsEvent};
+ghost use Rattle.dc_event.specs.Answers.{IfMore};
 ghost use Rattle.dc_event.specs.Causes.{counted};
+ghost use Rattle.dc_event.specs.History.{gathered_by};
 ghost use Rattle.dc_event.specs.Bytes.{Moved, Moved-none, Moved-both};
 ghost use Rattle.dc_event.specs.Quiet.{Filled, Filled-none, Filled-both};
 ghost use Rattle.dc_script.specs.Faulty.{Faulty, faults_of, is_named, with_wake, FaultyPassed, FaultyActed, FaultyPassed-none, FaultyPassed-both, FaultyActed-none, FaultyActed-both, FaultyActed-passed, FaultyActed-faults};
+ghost use Rattle.dc_script.specs.Further.{HandsFurther};
 ghost use Rattle.dc_script.specs.World.{Acted-none, Acted-both, Acted-faults, Acted-passed, Passed-none, Passed-both};
 
 use crate::ScriptWorld;
 use arrayvec::ArrayVec;
-use dc_event::{Effects, Heard, Inbox, QuietSink, QuietSource, World, WorldFailed};
+use dc_event::{BatchWorld, Effects, Heard, Inbox, QuietSink, QuietSource, World, WorldFailed};
 use std::marker::Model;
 
 /// The recorded world inside.
@@ -174,4 +178,17 @@ impl World for FaultWorld {
     ghost acted_history = { FaultyActed-passed ⟦<Inner as Effects>⟧.acted ⟦<Inner as World>⟧.history (Acted-passed Moved Moved-none Moved-both _ _ Filled Filled-none Filled-both _ _) };
 
     ghost acted_faults = { FaultyActed-faults ⟦<Inner as Effects>⟧.acted ⟦<Inner as World>⟧.faults (Acted-faults _ _ _) };
+}
+
+impl BatchWorld for FaultWorld {
+    /// Gives what the recorded world gives. It is no call that is counted, so none is to fail.
+    fn more(&mut self, inbox: &mut Inbox) -> bool
+        ensures history { FaultyPassed ⟦<Inner as World>⟧.history self.old (gathered_by result inbox.new) self.new }
+        ensures count { faults_of ⟦<Inner as World>⟧.faults self.new ≡ faults_of ⟦<Inner as World>⟧.faults self.old }
+        ensures bounds { IfMore result (IsEvent inbox.new) }
+        ensures further { HandsFurther result inbox.old inbox.new self.old.world self.new.world }
+        ensures same { self.new ≡ record self.old { world = self.new.world } }
+    {
+        self.world.more(inbox)
+    }
 }

@@ -7,6 +7,6 @@ use Rattle.dc_record.proofs.recorder.RecordWorldWorld.next.Goals as goal
 
 pub returns-then-self-clause-history : goal.returns-then-self-clause-history
 returns-then-self-clause-history g c =
-    subst (λ r. Passed g.W.World.history g.K.Sink.gained c.args.self.now (asked c.args.wake failed ∷ []) r) (sym c.fail.ensures)
-    (passed_failed g.W.World.history g.K.Sink.gained g.met.W.World.history_none g.met.K.Sink.gained_none c.args.self.now (counted c.args.self.now.faults) c.args.wake
+    subst (λ r. Passed g.W.World.history g.W.World.faults g.K.Sink.gained g.K.Sink.refused g.K.Sink.faults c.args.self.now (asked c.args.wake failed ∷ []) r) (sym c.fail.ensures)
+    (passed_failed g.W.World.history g.W.World.faults g.K.Sink.gained g.K.Sink.refused g.K.Sink.faults g.met.W.World.history_none g.met.K.Sink.gained_none c.args.self.now (counted c.args.self.now.faults) c.args.wake
     (sym (ap (λ r. r.failed) c.self.view_is) ∙ c.if-self.true))

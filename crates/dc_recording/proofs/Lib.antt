@@ -1,0 +1,5 @@
+pub mod PassLemmas
+pub mod StepLemmas
+pub mod ReadyLemmas
+pub mod TopLemmas
+pub mod LawLemmas

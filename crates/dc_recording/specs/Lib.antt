@@ -1,0 +1,4 @@
+pub mod Rooted
+pub mod Written
+pub mod Recording
+pub mod Ready
