@@ -3,7 +3,7 @@ use Rattle.std.proofs.Common.{◌≡◌, ℕ, suc, ◌+◌, List, [], ◌∷◌,
 use Rattle.std.proofs.lemmas.List.{append-nil}
 use Rattle.dc_model.specs.Event.{Event, Action}
 use Rattle.dc_engine.specs.Automaton.{Automaton, state_after, actions_of}
-use Rattle.dc_event.specs.History.{gave, ended, failed, bad, Exchange, listened, asked, gathered, did, done_all, events_in}
+use Rattle.dc_event.specs.History.{gave, ended, failed, bad, Exchange, listened, asked, gathered, did, done_all, events_in, actions_in}
 use Rattle.dc_shard.specs.Follows.{Point, heard, heard_all, Follows}
 use Rattle.dc_shard.specs.Rounds.{gathered_all}
 
@@ -85,3 +85,45 @@ module _ {S : Type 0} (m : Automaton S) (words : ℕ → List ℕ) where
     where
       next : (n : ℕ) (es : List Event) → n + 1 + length es ≡ n + suc (length es)
       next n es = omega arith
+
+  -- Events, and others behind them.
+
+  pub state_append : (n : ℕ) (s : S) (xs ys : List Event) → state_after m words n s (xs ++ ys) ≡ state_after m words (n + length xs) (state_after m words n s xs) ys
+  state_append n s [] ys = ap (λ k. state_after m words k s ys) (sym (add-zero n))
+  state_append n s (x ∷ xs) ys =
+      let number : n + 1 + length xs ≡ n + length (x ∷ xs) = omega arith in
+      state_append (n + 1) (m.next s x (words n)) xs ys ∙ ap (λ k. state_after m words k (state_after m words (n + 1) (m.next s x (words n)) xs) ys) number
+
+  pub actions_append : (n : ℕ) (s : S) (xs ys : List Event) → actions_of m words n s (xs ++ ys) ≡ actions_of m words n s xs ++ actions_of m words (n + length xs) (state_after m words n s xs) ys
+  actions_append n s [] ys = ap (λ k. actions_of m words k s ys) (sym (add-zero n))
+  actions_append n s (x ∷ xs) ys =
+      let number : n + 1 + length xs ≡ n + length (x ∷ xs) = omega arith in
+      let t = m.next s x (words n) in
+      ap (λ l. m.actions s x (words n) ++ l)
+      (actions_append (n + 1) t xs ys ∙ ap (λ k. actions_of m words (n + 1) t xs ++ actions_of m words k (state_after m words (n + 1) t xs) ys) number)
+      ∙ sym (append_assoc (m.actions s x (words n)) (actions_of m words (n + 1) t xs) (actions_of m words (n + length (x ∷ xs)) (state_after m words (n + 1) t xs) ys))
+
+  -- The state of a point is that behind the events which were handed out.
+  pub follows_comes : (p q : Point S) (h : List Exchange) → Follows m words p h q → q.state ≡ state_after m words p.number p.state (events_in h)
+  unfolding Follows
+  follows_comes p q [] a = ap (λ x. x.state) a
+  follows_comes p q (listened addr send_from well ∷ h) a = absurd a
+  follows_comes p q (asked wake (gave e) ∷ h) a = follows_comes (heard m words p e) q h a.1.1
+  follows_comes p q (asked wake ended ∷ h) a = absurd a
+  follows_comes p q (asked wake failed ∷ h) a = absurd a
+  follows_comes p q (asked wake (bad line) ∷ h) a = absurd a
+  follows_comes p q (gathered e ∷ h) a = follows_comes (heard m words p e) q h a
+  follows_comes p q (did x ∷ h) a = follows_comes (record p { due = a.0 }) q h a.1.1
+
+  -- What was done, with what is still due, is what was due and the actions of the events.
+  pub follows_does : (p q : Point S) (h : List Exchange) → Follows m words p h q → actions_in h ++ q.due ≡ p.due ++ actions_of m words p.number p.state (events_in h)
+  unfolding Follows
+  follows_does p q [] a = ap (λ x. x.due) a ∙ sym (append-nil p.due)
+  follows_does p q (listened addr send_from well ∷ h) a = absurd a
+  follows_does p q (asked wake (gave e) ∷ h) a = follows_does (heard m words p e) q h a.1.1 ∙ append_assoc p.due (m.actions p.state e (words p.number)) _
+  follows_does p q (asked wake ended ∷ h) a = absurd a
+  follows_does p q (asked wake failed ∷ h) a = absurd a
+  follows_does p q (asked wake (bad line) ∷ h) a = absurd a
+  follows_does p q (gathered e ∷ h) a = follows_does (heard m words p e) q h a ∙ append_assoc p.due (m.actions p.state e (words p.number)) _
+  follows_does p q (did x ∷ h) a =
+      ap (λ l. x ∷ l) (follows_does (record p { due = a.0 }) q h a.1.1) ∙ ap (λ l. l ++ actions_of m words p.number p.state (events_in h)) (sym a.1.0)

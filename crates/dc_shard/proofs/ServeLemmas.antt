@@ -1,15 +1,15 @@
 -- The loop: rounds, one after the other.
-use Rattle.std.proofs.Common.{◌≡◌, ℕ, suc, ◌+◌, ◌-◌, ◌≤◌, Bool, true, false, List, [], ◌∷◌, ◌++◌, length, refl, sym, ◌∙◌, ap, subst, arith, length-append}
+use Rattle.std.proofs.Common.{◌≡◌, ℕ, suc, ◌+◌, ◌-◌, ◌≤◌, Bool, true, false, List, [], ◌∷◌, ◌++◌, length, refl, sym, ◌∙◌, ap, subst, arith, length-append, append_assoc}
 use Rattle.std.specs.Prelude.{All}
 use Rattle.std.proofs.lemmas.List.{append-nil}
 use Rattle.std.proofs.lemmas.Bool.{false≢true}
 use Rattle.std.proofs.lemmas.List.Elements.{All-nil, All-cons, All-append}
 use Rattle.std.specs.declared.option.Option.{Option}
-use Rattle.dc_model.specs.Event.{Event, IsEvent}
+use Rattle.dc_model.specs.Event.{Event, IsEvent, Action}
 use Rattle.dc_engine.specs.Automaton.{Automaton, state_after, actions_of}
 use Rattle.dc_event.specs.declared.answers.Heard.{Heard}
 use Rattle.dc_event.specs.declared.answers.Heard.TheVariants as said
-use Rattle.dc_event.specs.History.{Exchange, gave, done_all, events_in, events-both, events-done}
+use Rattle.dc_event.specs.History.{Exchange, gave, done_all, events_in, events-both, events-done, actions_in, actions-both, actions-done}
 use Rattle.dc_split.specs.Split.{split}
 use Rattle.dc_split.specs.Round.{hands_of}
 use Rattle.dc_shard.specs.declared.bay.Bay.{Bay}
@@ -19,10 +19,10 @@ use Rattle.dc_shard.specs.Rounds.{AreBlank, AreWhole, Cleared, InRound, cores_in
 use Rattle.dc_shard.specs.Follows.{Point, heard, heard_all, Follows}
 use Rattle.dc_shard.specs.declared.served.ShardServed.{ShardServed}
 use Rattle.dc_shard.specs.declared.served.ShardServed.TheVariants.{NoMemory}
-use Rattle.dc_shard.specs.Serving.{opens, last_asked, Ends, Settles, Serves, Stage, SoFar}
+use Rattle.dc_shard.specs.Serving.{opens, last_asked, Ends, Settles, Lacks, Serves, Stage, SoFar}
 use Rattle.dc_shard.proofs.BayLemmas.{stepped_free, cleared_blank, cleared_free, cleared_states}
 use Rattle.dc_shard.proofs.RoundLemmas.{round_comes_to, round_plays, round_counts}
-use Rattle.dc_shard.proofs.FollowLemmas.{follows_both, follows_done, follows_gathered, follows_round, follows_number, heard_number}
+use Rattle.dc_shard.proofs.FollowLemmas.{follows_both, follows_done, follows_gathered, follows_round, follows_number, heard_number, state_append, actions_append}
 
 -- An event that is held over, or none
 
@@ -39,6 +39,38 @@ not_held false a h never = refl
 events_gathered : (es : List Event) → events_in (gathered_all es) ≡ es
 events_gathered [] = refl
 events_gathered (e ∷ es) = ap (λ l. e ∷ l) (events_gathered es)
+
+actions_gathered : (es : List Event) → actions_in (gathered_all es) ≡ []
+actions_gathered [] = refl
+actions_gathered (e ∷ es) = actions_gathered es
+
+-- The first event of a round stands behind those before, whether it was held over or the world was asked for it.
+begun_events : (held : Bool) (wake : Option ℕ) (spare e : Event) (known before : List Event) → known ≡ before ++ held_over held spare → (held ≡ true → e ≡ spare)
+    → known ++ events_in (begun held wake (gave e)) ≡ before ++ e ∷ []
+begun_events true wake spare e known before is same = append-nil known ∙ is ∙ ap (λ x. before ++ x ∷ []) (sym (same refl))
+begun_events false wake spare e known before is same = ap (λ l. l ++ e ∷ []) (is ∙ append-nil before)
+
+begun_actions : (held : Bool) (wake : Option ℕ) (e : Event) → actions_in (begun held wake (gave e)) ≡ []
+begun_actions true wake e = refl
+begun_actions false wake e = refl
+
+-- What a round hands out, and that nothing is done meanwhile.
+
+round_events : (passed : List Exchange) (held : Bool) (wake : Option ℕ) (spare e : Event) (before es : List Event) → events_in passed ≡ before ++ held_over held spare → (held ≡ true → e ≡ spare)
+    → events_in ((passed ++ begun held wake (gave e)) ++ gathered_all es) ≡ before ++ (e ∷ es)
+round_events passed held wake spare e before es is same =
+    let begins = begun held wake (gave e) in
+    events-both (passed ++ begins) (gathered_all es)
+    ∙ (λ i. (events-both passed begins ∙ begun_events held wake spare e (events_in passed) before is same) i ++ events_gathered es i)
+    ∙ append_assoc before (e ∷ []) es
+
+round_acts : (passed : List Exchange) (held : Bool) (wake : Option ℕ) (e : Event) (es : List Event)
+    → actions_in ((passed ++ begun held wake (gave e)) ++ gathered_all es) ≡ actions_in passed
+round_acts passed held wake e es =
+    let begins = begun held wake (gave e) in
+    actions-both (passed ++ begins) (gathered_all es)
+    ∙ (λ i. (actions-both passed begins ∙ ap (λ l. actions_in passed ++ l) (begun_actions held wake e) ∙ append-nil (actions_in passed)) i ++ actions_gathered es i)
+    ∙ append-nil (actions_in passed)
 
 begun_bounded : (held : Bool) (wake : Option ℕ) (e : Event) → IsEvent e → All IsEvent (events_in (begun held wake (gave e)))
 begun_bounded true wake e is = All-nil IsEvent
@@ -101,6 +133,10 @@ module _ {W E S : Type 0} (history : W → List Exchange → W → Type 0) (both
         steps = subst (λ k. MayStepEach m k (states_of state bays)) steps (subst (MayStepEach m limit) (sym same) may);
         free = free;
         blank = blank;
+        before = [];
+        events = events-done opening;
+        acts = actions-done opening ∙ sym (append-nil opening);
+        came = same;
       }
 
   -- So many events were handed out.
@@ -137,7 +173,22 @@ module _ {W E S : Type 0} (history : W → List Exchange → W → Type 0) (both
       (subst (λ t. Follows (split m) words (heard_all (split m) words (record { number = given; state = ss; due = [] }) ((e ∷ more) ++ held_over held' spare')) (done_all acts) (heard_all (split m) words (record { number = given + length (e ∷ more); state = t; due = [] }) (held_over held' spare'))) comes goes) in
       let shown : history gathered (done_all acts) new = subst (λ xs. history gathered (done_all xs) new) acted plays in
       let may : MayStepEach m (limit - handled) (states_of state mid) = subst (MayStepEach m (limit - handled)) (sym round.states) so.steps in
-      let fewer : limit - handled' + 1 ≤ limit - handled = omega (arith, handled_is, count, few) in (
+      let fewer : limit - handled' + 1 ≤ limit - handled = omega (arith, handled_is, count, few) in
+      let wake = (split m).wake ss in
+      let heard_all_of = (passed ++ begun held wake (gave e)) ++ gathered_all es in
+      let reached : given ≡ first + length so.before = omega (
+        arith,
+        served_count old now passed _ so.stage,
+        heard_number (split m) words (record { number = given; state = ss; due = [] }) (held_over held spare),
+        ap length so.events,
+        length-append so.before (held_over held spare),
+      ) in
+      let does : (split m).opening start ++ actions_of (split m) words first start (so.before ++ (e ∷ more)) ≡ actions_in passed ++ acts =
+      ap (λ l. (split m).opening start ++ l) (actions_append (split m) words first start so.before (e ∷ more))
+      ∙ sym (append_assoc ((split m).opening start) (actions_of (split m) words first start so.before) _)
+      ∙ (λ i. sym so.acts i ++ actions_of (split m) words (sym reached i) (sym so.came i) (e ∷ more)) in
+      let done_now : actions_in (heard_all_of ++ done_all acts) ≡ actions_in passed ++ acts =
+      actions-both heard_all_of (done_all acts) ∙ (λ i. round_acts passed held wake e es i ++ actions-done acts i) in (
         ((passed ++ begun held ((split m).wake ss) (gave e)) ++ gathered_all es) ++ done_all acts,
         record {
           stage = stage_more history both (split m) words (opens (split m) first start) old gathered new _ (done_all acts) _ _ handed shown
@@ -148,6 +199,12 @@ module _ {W E S : Type 0} (history : W → List Exchange → W → Type 0) (both
           steps = subst (MayStepEach m (limit - handled')) (sym (cleared_states state after final cleared)) (round_counts m state words counts (limit - handled) (limit - handled') (length mid) 0 mid after stepped fewer may);
           free = cleared_free after final cleared (stepped_free Gains m state (length mid) 0 mid after stepped);
           blank = cleared_blank after final cleared;
+          before = so.before ++ (e ∷ more);
+          events =
+              events-both heard_all_of (done_all acts) ∙ (λ i. round_events passed held wake spare e so.before es so.events same i ++ events-done acts i)
+              ∙ append-nil (so.before ++ (e ∷ es)) ∙ sym (append_assoc so.before (e ∷ more) (held_over held' spare'));
+          acts = done_now ∙ sym does;
+          came = sym comes ∙ (λ i. state_after (split m) words (reached i) (so.came i) (e ∷ more)) ∙ sym (state_append (split m) words first start so.before (e ∷ more));
         },
       )
 
@@ -155,7 +212,7 @@ module _ {W E S : Type 0} (history : W → List Exchange → W → Type 0) (both
   pub serve_ends : (old now new : W) (bays : List (Bay E Taped)) (given handled : ℕ) (held : Bool) (spare : Event) (passed : List Exchange) (answer : ShardServed) (most : ℕ)
       → SoFar history m state words first limit start old now bays given handled held spare passed → held_over held spare ≡ [] → limit ≡ most → Ends answer handled limit
       → history now (last_asked answer ((split m).wake (states_of state bays))) new
-      → Settles answer (states_of state bays) given (record { number = given; state = states_of state bays; due = [] })
+      → Settles (split m) words first start passed answer (states_of state bays) given (record { number = given; state = states_of state bays; due = [] })
       → (x : List Exchange) × ((p : Point (List S)) × (history old (x ++ last_asked answer ((split m).wake p.state)) new
       × Serves (split m) words first start (states_of state bays) given most answer x p))
   serve_ends old now new bays given handled held spare passed answer most so none all ends last settled =
@@ -198,7 +255,17 @@ module _ {W E S : Type 0} (history : W → List Exchange → W → Type 0) (both
           p,
           (
             subst (λ w. history old (x ++ []) w) (sym stays) (subst (λ h. history old h gathered) (sym (append-nil x)) stage.happened),
-            record { bounded = stage.bounded; follows = stage.follows; settled = tt; ends = omega (arith, count, number, so.number, few, whole) },
+            record {
+              bounded = stage.bounded;
+              follows = stage.follows;
+              settled = record {
+                before = so.before;
+                round = e ∷ es;
+                events = round_events passed held ((split m).wake ss) spare e so.before es so.events same;
+                acts = round_acts passed held ((split m).wake ss) e es ∙ so.acts;
+              };
+              ends = omega (arith, count, number, so.number, few, whole);
+            },
           ),
         ),
       )

@@ -1,10 +1,10 @@
 -- What serving over several cores does.
-use Rattle.std.specs.Prelude.{◌≡◌, ℕ, ◌+◌, ◌-◌, ◌<◌, ◌≤◌, Bool, true, List, [], ◌∷◌, length, All}
+use Rattle.std.specs.Prelude.{◌≡◌, ℕ, ◌+◌, ◌-◌, ◌<◌, ◌≤◌, Bool, true, List, [], ◌∷◌, ◌++◌, length, All}
 use Rattle.std.specs.declared.option.Option.{Option}
 use Rattle.dc_model.specs.Event.{Event, IsEvent}
-use Rattle.dc_engine.specs.Automaton.{Automaton}
+use Rattle.dc_engine.specs.Automaton.{Automaton, state_after, actions_of}
 use Rattle.dc_event.specs.Causes.{counted}
-use Rattle.dc_event.specs.History.{Exchange, asked, ended, failed, bad, events_in}
+use Rattle.dc_event.specs.History.{Exchange, asked, ended, failed, bad, events_in, actions_in}
 use Rattle.dc_split.specs.Split.{split}
 use Rattle.dc_shard.specs.declared.bay.Bay.{Bay}
 use Rattle.dc_shard.specs.Bays.{states_of, outs_of, MayStepEach, AreFree}
@@ -34,13 +34,20 @@ Ends Failed count limit = count < limit
 Ends (Bad line) count limit = count < limit
 Ends NoMemory count limit = count ≤ limit
 
+-- Memory was wanting in a round: all that is due at the events of the rounds before is done, and nothing of what is due at its own.
+pub record Lacks {S : Type 0} (m : Automaton S) (words : ℕ → List ℕ) (first : ℕ) (start : S) (passed : List Exchange) : Type 0 where
+  pub before : List Event
+  pub round : List Event
+  pub events : events_in passed ≡ before ++ round
+  pub acts : actions_in passed ≡ m.opening start ++ actions_of m words first start before
+
 -- Where memory wasn't wanted, all that was due is done, and the cores have come to that point.
-abbrev pub Settles : {S : Type 0} → ShardServed → (final : S) → (given : ℕ) → Point S → Type 0
-Settles Ended final given p = (final ≡ p.state) × ((given ≡ p.number) × (p.due ≡ []))
-Settles Spent final given p = (final ≡ p.state) × ((given ≡ p.number) × (p.due ≡ []))
-Settles Failed final given p = (final ≡ p.state) × ((given ≡ p.number) × (p.due ≡ []))
-Settles (Bad line) final given p = (final ≡ p.state) × ((given ≡ p.number) × (p.due ≡ []))
-Settles NoMemory final given p = Unit {0}
+abbrev pub Settles : {S : Type 0} → Automaton S → (ℕ → List ℕ) → (first : ℕ) → (start : S) → (passed : List Exchange) → ShardServed → (final : S) → (given : ℕ) → Point S → Type 0
+Settles m words first start passed Ended final given p = (final ≡ p.state) × ((given ≡ p.number) × (p.due ≡ []))
+Settles m words first start passed Spent final given p = (final ≡ p.state) × ((given ≡ p.number) × (p.due ≡ []))
+Settles m words first start passed Failed final given p = (final ≡ p.state) × ((given ≡ p.number) × (p.due ≡ []))
+Settles m words first start passed (Bad line) final given p = (final ≡ p.state) × ((given ≡ p.number) × (p.due ≡ []))
+Settles m words first start passed NoMemory final given p = Lacks m words first start passed
 
 -- What stands where the world ended it.
 abbrev pub Justified : ShardServed → (used_up : Type 0) → (broken : ℕ → Type 0) → Type 0
@@ -70,7 +77,7 @@ count_served NoMemory before = before
 pub record Serves {S : Type 0} (m : Automaton S) (words : ℕ → List ℕ) (first : ℕ) (start final : S) (given limit : ℕ) (answer : ShardServed) (passed : List Exchange) (end : Point S) : Type 0 where
   pub bounded : All IsEvent (events_in passed)
   pub follows : Follows m words (opens m first start) passed end
-  pub settled : Settles answer final given end
+  pub settled : Settles m words first start passed answer final given end
   pub ends : Ends answer (length (events_in passed)) limit
 
 -- What passed so far, and the point to which the machine followed it.
@@ -90,3 +97,7 @@ pub record SoFar {W E S : Type 0} (history : W → List Exchange → W → Type 
   pub steps : MayStepEach m (limit - handled) (states_of state bays)
   pub free : AreFree bays
   pub blank : AreBlank (outs_of bays)
+  pub before : List Event
+  pub events : events_in passed ≡ before ++ held_over held spare
+  pub acts : actions_in passed ≡ (split m).opening start ++ actions_of (split m) words first start before
+  pub came : states_of state bays ≡ state_after (split m) words first start before

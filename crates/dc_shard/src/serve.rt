@@ -26,7 +26,7 @@ pub const MOST_EVENTS: u64 = 1 << 60;
 /// A round begins with the event that was held over, or else with the next one of the world, which is given the least wake of the cores.
 /// It takes further events that have come already. One whose core is given an event already, and a Tick, is held over and ends the
 /// gathering. The cores then make their steps at once, and their actions are done in the order in which their events were heard. Where
-/// memory was wanting for the actions of a round, none of them is done.
+/// memory was wanting for the actions of a round, none of them is done, and those of the rounds before are.
 ///
 /// Its last argument but one is an inbox for the event that is handed out.
 pub fn serve_shards<E: Engine + Send, W: BatchWorld, R: Threads + Sync>(

@@ -153,3 +153,123 @@ fn two_cores_step_at_once(rt: HostRuntime) -> Result<(), Fail> {
     assert_eq!(rt; world.held(), Some(&wanted(alloc)?[..]));
     Ok(())
 }
+
+/// Writes a line at each step.
+#[derive(Drop)]
+struct Writing {
+    handled: u64,
+}
+
+impl Engine for Writing {
+    ghost State = { ℕ };
+
+    ghost machine = { record {
+      opening = λ s. [];
+      wake = λ s. None;
+      finished = λ s. false;
+      actions = λ s e words. line e.bytes ∷ [];
+      next = λ s e words. s + 1;
+      handled = λ s. s;
+    } };
+
+    ghost state = { λ engine. engine.handled };
+
+    fn launch<O: Effects>(&mut self, _out: &mut O) {}
+
+    fn step<O: Effects>(&mut self, inbox: &Inbox, _draws: &[u32; 17], out: &mut O) {
+        out.line(inbox.bytes());
+        self.handled += 1;
+    }
+
+    fn wake(&self) -> Option<u64> {
+        None
+    }
+
+    fn finished(&self) -> bool {
+        false
+    }
+
+    ghost counts = { λ s e words. refl };
+}
+
+/// Counts its lines. At the first it says so, and looks for a while whether another out was given one.
+#[derive(Drop)]
+struct Signal<'a> {
+    lines: u64,
+    given: &'a AtomicU64,
+    met: &'a AtomicU64,
+}
+
+impl<'a> Effects for Signal<'a> {
+    ghost acted = { λ a actions b. Unit {0} };
+
+    fn reply(&mut self, _addr: [u8; 4], _port: u16, _bytes: &[u8]) {}
+
+    fn conn_reply(&mut self, _conn: u64, _bytes: &[u8]) {}
+
+    fn conn_close(&mut self, _conn: u64) {}
+
+    fn udp(&mut self, _link: u64, _local_port: u16, _server: [u8; 4], _query: &[u8]) {}
+
+    fn tcp(&mut self, _link: u64, _local_port: u16, _server: [u8; 4]) {}
+
+    fn link_write(&mut self, _link: u64, _bytes: &[u8]) {}
+
+    fn link_close(&mut self, _link: u64) {}
+
+    fn line(&mut self, _text: &[u8]) {
+        self.lines = self.lines.saturating_add(1);
+        if self.lines > 1 {
+            return;
+        }
+        self.given.fetch_add(1, Ordering::SeqCst);
+        for _ in 0..50000000u32 {
+            if self.given.load(Ordering::SeqCst) == 2 {
+                self.met.fetch_add(1, Ordering::SeqCst);
+                break;
+            }
+        }
+    }
+
+    ghost acted_none = { λ a. tt };
+
+    ghost acted_both = { λ a b c xs ys first second. tt };
+}
+
+/// A bay whose core has handled nothing and is given an event, and whose out has had no line.
+fn given_bay<'a>(
+    alloc: Global,
+    given: &'a AtomicU64,
+    met: &'a AtomicU64,
+) -> Result<Bay<Writing, Signal<'a>>, AllocError>
+    ensures handled { IfOk result (λ b. b.core.handled ≡ 0) }
+{
+    Ok(Bay {
+        core: Writing { handled: 0 },
+        inbox: Inbox::new(alloc)?,
+        draws: [0; 17],
+        given: true,
+        out: Signal {
+            lines: 0,
+            given,
+            met,
+        },
+    })
+}
+
+/// Two cores that are given an event make their steps at once: each one's out has its line while the other's waits for it.
+#[test]
+fn outs_meet(rt: HostRuntime) -> Result<(), Fail> {
+    let alloc = rt.alloc();
+    let given = AtomicU64::new(0);
+    let met = AtomicU64::new(0);
+    let first = given_bay(alloc, &given, &met)?;
+    let second = given_bay(alloc, &given, &met)?;
+    let mut bays = Vec::new(alloc);
+    bays.push(first)?;
+    bays.push(second)?;
+    let mut shards = Shards { bays };
+    shards.step_all(&rt);
+    assert_eq!(rt; met.load(Ordering::SeqCst), 2);
+    Ok(())
+}

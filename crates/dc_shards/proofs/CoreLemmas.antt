@@ -14,7 +14,7 @@ lengths : (rs : List Running) → length rs ≡ length (machines rs)
 lengths [] = refl
 lengths (r ∷ rs) = ap suc (lengths rs)
 
-wakes : (rs : List Running) → map (λ r. wake r.machine) rs ≡ map (λ m. wake m) (machines rs)
+pub wakes : (rs : List Running) → map (λ r. wake r.machine) rs ≡ map (λ m. wake m) (machines rs)
 wakes [] = refl
 wakes (r ∷ rs) = ap (λ ws. wake r.machine ∷ ws) (wakes rs)
 
@@ -36,7 +36,7 @@ changed_is rules [] n e words h = refl
 changed_is rules (r ∷ rs) zero e words h = ap (λ x. (step x r.machine e words).machine ∷ machines rs) h.0
 changed_is rules (r ∷ rs) (suc n) e words h = ap (λ ms. r.machine ∷ ms) (changed_is rules rs n e words h.1)
 
-rules_kept : (rules : Rules) (rs : List Running) (n : ℕ) (e : Event) (words : List ℕ) → HaveRules rules rs → HaveRules rules (changed n (λ s. core_machine.next s e words) rs)
+pub rules_kept : (rules : Rules) (rs : List Running) (n : ℕ) (e : Event) (words : List ℕ) → HaveRules rules rs → HaveRules rules (changed n (λ s. core_machine.next s e words) rs)
 unfolding changed
 rules_kept rules [] n e words h = tt
 rules_kept rules (r ∷ rs) zero e words h = h
