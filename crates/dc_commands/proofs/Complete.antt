@@ -25,6 +25,9 @@ ends run limit said few e =
 abbrev none_said : Option Head
 none_said = None
 
+abbrev some_said : Head → Option Head
+some_said h = Some h
+
 pub whole_done : (read : HeadRead) (h : Head) (events : List Event) (limit : ℕ) → said_behind read ≡ record { head = Some h; said = record { events = events; bad = None } }
     → length events < limit → (outcome limit read).status ≡ Done
 unfolding outcome
@@ -54,3 +57,16 @@ only_faults promised whole text (BadPermit f) e k r w = absurd k
 only_faults promised whole text FilesFault e k r w = absurd k
 only_faults promised whole text SeedShort e k r w = absurd k
 only_faults promised whole text WorldFault e k r w = absurd k
+
+-- A script whose head and events are these comes to what they come to.
+pub whole_comes : (read : HeadRead) (h : Head) (events : List Event) (limit : ℕ) → said_behind read ≡ record { head = Some h; said = record { events = events; bad = None } }
+    → outcome limit read ≡ with_status (outcome_of (machine_run h.config h.seed) limit (record { events = events; bad = None }))
+unfolding outcome
+whole_comes (other k) h events limit e =
+    let never : none_said ≡ Some h = ap {A = ScriptSaid} (λ s. s.head) e in cc
+whole_comes (behind g k pieces) h events limit e =
+    let said : said_from line_event (k + 1) pieces ≡ record { events = events; bad = None } = ap {A = ScriptSaid} (λ s. s.said) e in
+    let same : some_said g ≡ Some h = ap {A = ScriptSaid} (λ s. s.head) e in
+    let head : g ≡ h = cc in
+    ap (λ (s : Said). with_status (outcome_of (machine_run g.config g.seed) limit s)) said
+    ∙ ap (λ (x : Head). with_status (outcome_of (machine_run x.config x.seed) limit (record { events = events; bad = None }))) head

@@ -211,6 +211,8 @@ fn replay(
         &mut source,
         &mut sink,
         &mut world(alloc, &[])?,
+        &mut QuietSource::new(Vec::new(alloc)),
+        &mut QuietSink::new(alloc, 0)?,
         1000,
     );
     Ok((status, sink.held().to_vec(alloc)?))

@@ -3,7 +3,7 @@ ghost use Rattle.std.specs.Prelude.{◌≡◌, length, IfOk};
 
 use crate::{Status, dnscache};
 use dc_config::{Env, QuietFiles, Variable};
-use dc_event::{MemorySink, MemorySource};
+use dc_event::{MemorySink, MemorySource, QuietSink, QuietSource};
 use dc_script::{LineRest, ScriptWorld};
 use std::alloc::{AllocError, Global};
 use std::test::Fail;
@@ -100,6 +100,8 @@ impl Replay {
             &mut source,
             &mut sink,
             &mut world_of(alloc, b"", &[])?,
+            &mut QuietSource::new(Vec::new(alloc)),
+            &mut QuietSink::new(alloc, 0)?,
             self.turns,
         );
         Ok((status, sink.held().to_vec(alloc)?))
@@ -204,10 +206,12 @@ fn heads_and_words(rt: HostRuntime) -> Result<(), Fail> {
     Ok(())
 }
 
-/// How clients are served: the first variable, the first file, how long the seed is, and which calls of the world's source fail.
+/// How clients are served: the first variable, those behind CACHESIZE, the first file, how long the seed is, and which calls of the world's
+/// source fail.
 #[derive(Clone, Copy)]
 struct Service {
     variable: &'static str,
+    modes: &'static [(&'static str, &'static str)],
     file: &'static str,
     seed: usize,
     failing: &'static [u64],
@@ -216,6 +220,7 @@ struct Service {
 /// All goes well.
 const GOOD: Service = Service {
     variable: "IP",
+    modes: &[],
     file: "servers/@",
     seed: 32,
     failing: &[],
@@ -229,8 +234,14 @@ impl Service {
         env.set(String::from_str(alloc, self.variable)?, address);
         let address = String::from_str(alloc, "0.0.0.0")?;
         env.set(String::from_str(alloc, "IPSEND")?, address);
-        let size = String::from_str(alloc, "1000000")?;
+        let size = String::from_str(alloc, "10000")?;
         env.set(String::from_str(alloc, "CACHESIZE")?, size);
+        for (name, value) in self.modes {
+            env.set(
+                String::from_str(alloc, name)?,
+                String::from_str(alloc, value)?,
+            );
+        }
         Ok(env)
     }
 
@@ -258,8 +269,10 @@ impl Service {
             &self.env(alloc)?,
             &mut self.files(alloc)?,
             &mut MemorySource::new(seed, 10, Vec::new(alloc)),
-            &mut MemorySink::new(alloc, 0, Vec::new(alloc))?,
+            &mut MemorySink::new(alloc, 4096, Vec::new(alloc))?,
             &mut world,
+            &mut QuietSource::new(Vec::new(alloc)),
+            &mut QuietSink::new(alloc, 0)?,
             1000,
         );
         Ok((status, world.sink().held().to_vec(alloc)?))
@@ -297,6 +310,45 @@ fn serving(rt: HostRuntime) -> Result<(), Fail> {
         ),
     ] {
         let (status, text) = service.serve(&rt, rt.alloc())?;
+        assert_eq!(rt; status, wanted);
+        assert_eq!(rt; &text[..], told);
+    }
+    Ok(())
+}
+
+/// How the variables choose the way in which clients are served, and which of them are refused.
+#[test]
+fn ways_to_serve(rt: HostRuntime) -> Result<(), Fail> {
+    let rows: [(&'static [(&'static str, &'static str)], Status, &[u8]); 10] = [
+        (&[("EVENTS", "x")], Status::Done, ANSWERED),
+        (&[("CORES", "1")], Status::Done, ANSWERED),
+        (&[("CORES", "9")], Status::BadVariable(Variable::Cores), b""),
+        (&[("CORES", "")], Status::BadVariable(Variable::Cores), b""),
+        (&[("IMAGE", "image")], Status::Done, ANSWERED),
+        (
+            &[("IMAGE", "image"), ("EVENTS", "1")],
+            Status::Spent,
+            ANSWERED,
+        ),
+        (
+            &[("IMAGE", "image"), ("EVENTS", "x")],
+            Status::BadVariable(Variable::Events),
+            b"",
+        ),
+        (&[("RECORD", "")], Status::Done, ANSWERED),
+        (
+            &[("IMAGE", "image"), ("RECORD", "")],
+            Status::BadVariable(Variable::Record),
+            b"",
+        ),
+        (
+            &[("CORES", "9"), ("IMAGE", "")],
+            Status::BadVariable(Variable::Image),
+            b"",
+        ),
+    ];
+    for (modes, wanted, told) in rows {
+        let (status, text) = Service { modes, ..GOOD }.serve(&rt, rt.alloc())?;
         assert_eq!(rt; status, wanted);
         assert_eq!(rt; &text[..], told);
     }

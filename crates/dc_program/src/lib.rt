@@ -2,6 +2,9 @@
 #![tactic(auto)]
 
 mod ending;
+mod image;
+#[cfg(test)]
+mod image_tests;
 mod invocation;
 pub mod laws;
 mod memory;
@@ -15,6 +18,6 @@ pub use ending::{exit_code, report};
 pub use invocation::{Invocation, Unread};
 pub use memory::MemoryInvocation;
 pub use process::ProcessInvocation;
-pub use program::{run, run_system, start};
-pub use read::{environment, words};
+pub use program::{run_system, start};
+pub use read::{environment, shares_port, words};
 pub use std::alloc::AllocError as NoMemory;

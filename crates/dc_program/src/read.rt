@@ -1,5 +1,5 @@
 //! What is read of an invocation.
-ghost use Rattle.std.specs.Prelude.{◌≡◌, ℕ, ◌+◌, ◌<◌, ◌≤◌, List, length, drop, Option, Some, IfOk};
+ghost use Rattle.std.specs.Prelude.{◌≡◌, ℕ, ◌+◌, ◌<◌, ◌≤◌, List, length, drop, codes, is_some, Option, Some, IfOk};
 ghost use Rattle.dc_config.specs.Environment.{value_of};
 ghost use Rattle.dc_config.specs.Variables as defined;
 ghost use Rattle.dc_program.specs.Invoked.{IsTexts, with_value, value_among};
@@ -46,4 +46,14 @@ pub fn environment<P: Invocation>(alloc: Global, process: &P) -> Result<Env, NoM
         read_variable(alloc, process, name, &mut environment)?;
     }
     Ok(environment)
+}
+
+/// The variable that lets several services of one user serve on one address.
+const SHAREPORT: &str = "SHAREPORT";
+
+/// Whether clients' sockets share their port with those of other processes: where SHAREPORT is set, with any value.
+pub fn shares_port<P: Invocation>(alloc: Global, process: &P) -> Result<bool, NoMemory>
+    ensures { (value : List ℕ → Option (List ℕ)) → P.values process.now ≡ Some value → IfOk result (λ shares. shares ≡ is_some (value (codes "SHAREPORT"))) }
+{
+    Ok(process.value(alloc, SHAREPORT)?.is_some())
 }

@@ -32,7 +32,7 @@ only_faults BadImage conf c taken left e s f r = r
 only_faults Unequal conf c taken left e s f r = r
 
 -- Of the faults, want of memory alone is no call that failed.
-memory_alone : (status : Status) → IsFault status → files_well (fault_of status) ≡ true → source_well (fault_of status) ≡ true → world_well (fault_of status) ≡ true → status ≡ NoMemory
+pub memory_alone : (status : Status) → IsFault status → files_well (fault_of status) ≡ true → source_well (fault_of status) ≡ true → world_well (fault_of status) ≡ true → status ≡ NoMemory
 memory_alone FilesFault h f s w = cc
 memory_alone ReadFault h f s w = cc
 memory_alone WorldFault h f s w = cc

@@ -1,3 +1,4 @@
+pub mod BegunLemmas
 pub mod Complete
 pub mod FareLemmas
 pub mod MachineRuns

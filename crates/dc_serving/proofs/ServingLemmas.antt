@@ -3,6 +3,7 @@ use Rattle.std.proofs.Common.{◌≡◌, ℕ, ◌+◌, true, false, List, [], �
 use Rattle.dc_model.specs.Draws.{draws_of}
 use Rattle.dc_event.specs.Causes.{counted, count_by}
 use Rattle.std.specs.Result.{is_ok, is_err}
+use Rattle.dc_model.specs.Cache.{Cache}
 use Rattle.dc_model.specs.Event.{Event, line}
 use Rattle.dc_model.specs.Line.{line_starting}
 use Rattle.dc_machine.specs.Machine.{Machine, wake}
@@ -22,9 +23,8 @@ use Rattle.dc_serve.specs.declared.Served.{Served}
 use Rattle.dc_serve.specs.declared.Served.TheVariants as served
 use Rattle.dc_core.specs.Running.{Running, core_machine}
 use Rattle.dc_trust.specs.Faith.{HaveSixteen}
-use Rattle.dc_serving.proofs.TrustedRuns.{run_trusted}
-use Rattle.dc_serving.specs.Runs.{cache_of}
-use Rattle.dc_serving.specs.Serving.{machine_after, at_event, machine_passes, last_passes, Closes, Serving, IsSession, Refused, Unserved, status_from}
+use Rattle.dc_serving.proofs.TrustedRuns.{begun_trusted}
+use Rattle.dc_serving.specs.Serving.{machine_from, at_event, machine_passes, last_passes, Closes, ServingFrom, ServesFrom, status_from}
 use Rattle.dc_status.specs.Refused.{refused_by}
 use Rattle.dc_status.specs.declared.status.Status.{Status}
 use Rattle.dc_status.specs.declared.status.Status.TheVariants.{Done, BadVariable, WorldFault}
@@ -56,24 +56,24 @@ state_from words n s (e ∷ es) =
     state_from words (n + 1) next es
     ∙ ap (λ k. record { rules = s.rules; machine = last_of next.machine (taken_from s.rules words (n + 1) next.machine es); handled = k }) count
 
--- A core that begins with a configuration.
-abbrev pub core_opening : Config → Running
-core_opening c = record { rules = rules_of c; machine = opening (cache_of c); handled = 0 }
+-- A core that begins with a configuration and a first cache.
+abbrev pub core_opening : Config → Cache → Running
+core_opening c first = record { rules = rules_of c; machine = opening first; handled = 0 }
 
--- The same of a whole run, with a configuration and a seed.
+-- The same of a whole run, with a configuration, a first cache and a seed.
 
-run_passes : (c : Config) (seed : List ℕ) (es : List Event)
-    → done_all (core_machine.opening (core_opening c)) ++ each_passes core_machine (draws_of seed) 0 (core_opening c) es ≡ machine_passes c seed es
+run_passes : (c : Config) (first : Cache) (seed : List ℕ) (es : List Event)
+    → done_all (core_machine.opening (core_opening c first)) ++ each_passes core_machine (draws_of seed) 0 (core_opening c first) es ≡ machine_passes c first seed es
 unfolding run.seeded_run run.run machine_passes
-run_passes c seed es = ap (λ l. did (line line_starting) ∷ l) (each_from (draws_of seed) 0 (core_opening c) es)
+run_passes c first seed es = ap (λ l. did (line line_starting) ∷ l) (each_from (draws_of seed) 0 (core_opening c first) es)
 
-run_state : (c : Config) (seed : List ℕ) (es : List Event)
-    → state_after core_machine (draws_of seed) 0 (core_opening c) es ≡ record { rules = rules_of c; machine = machine_after c seed es; handled = length es }
-unfolding run.seeded_run run.run machine_after
-run_state c seed es =
+run_state : (c : Config) (first : Cache) (seed : List ℕ) (es : List Event)
+    → state_after core_machine (draws_of seed) 0 (core_opening c first) es ≡ record { rules = rules_of c; machine = machine_from c first seed es; handled = length es }
+unfolding run.seeded_run run.run machine_from
+run_state c first seed es =
     let count : 0 + length es ≡ length es = omega arith in
-    state_from (draws_of seed) 0 (core_opening c) es
-    ∙ ap (λ k. record { rules = rules_of c; machine = machine_after c seed es; handled = k }) count
+    state_from (draws_of seed) 0 (core_opening c first) es
+    ∙ ap (λ k. record { rules = rules_of c; machine = machine_from c first seed es; handled = k }) count
 
 -- How serving ends
 
@@ -93,29 +93,30 @@ last_is served.Failed count limit m ends = refl
 last_is (served.Bad k) count limit m ends = refl
 
 -- What the loop passes is what the machine does.
-serving_is : (c : Config) (seed : List ℕ) (events : List Event) (answer : Served) (count limit : ℕ) → Ends answer false count limit
-    → passes core_machine (draws_of seed) 0 (core_opening c) events answer ≡ machine_passes c seed events ++ last_passes (status_from answer) (machine_after c seed events)
-serving_is c seed events answer count limit ends =
-    let core = state_after core_machine (draws_of seed) 0 (core_opening c) events in
-    ap (λ l. l ++ serve.last_passes answer (wake core.machine)) (run_passes c seed events)
-    ∙ ap (λ (r : Running). machine_passes c seed events ++ serve.last_passes answer (wake r.machine)) (run_state c seed events)
-    ∙ ap (λ l. machine_passes c seed events ++ l) (last_is answer count limit (machine_after c seed events) ends)
+serving_is : (c : Config) (first : Cache) (seed : List ℕ) (events : List Event) (answer : Served) (count limit : ℕ) → Ends answer false count limit
+    → passes core_machine (draws_of seed) 0 (core_opening c first) events answer
+    ≡ machine_passes c first seed events ++ last_passes (status_from answer) (machine_from c first seed events)
+serving_is c first seed events answer count limit ends =
+    let core = state_after core_machine (draws_of seed) 0 (core_opening c first) events in
+    ap (λ l. l ++ serve.last_passes answer (wake core.machine)) (run_passes c first seed events)
+    ∙ ap (λ (r : Running). machine_passes c first seed events ++ serve.last_passes answer (wake r.machine)) (run_state c first seed events)
+    ∙ ap (λ l. machine_passes c first seed events ++ l) (last_is answer count limit (machine_from c first seed events) ends)
 
--- The core began with a configuration, and the words are those of a seed from the first on.
+-- The core began with a configuration and a first cache, and the words are those of a seed from the first on.
 
-passed_begun : {W : Type 0} (history : W → List Exchange → W → Type 0) (old new : W) (c : Config) (seed : List ℕ) (drawn : Drawn) (start : Running)
-    (answer : Served) (events : List Event) → drawn ≡ record { seed = seed; given = 0 } → start ≡ core_opening c
+passed_begun : {W : Type 0} (history : W → List Exchange → W → Type 0) (old new : W) (c : Config) (first : Cache) (seed : List ℕ) (drawn : Drawn) (start : Running)
+    (answer : Served) (events : List Event) → drawn ≡ record { seed = seed; given = 0 } → start ≡ core_opening c first
     → history old (passes core_machine (draws_of drawn.seed) drawn.given start events answer) new
-    → history old (passes core_machine (draws_of seed) 0 (core_opening c) events answer) new
-passed_begun history old new c seed drawn start answer events words opened h =
+    → history old (passes core_machine (draws_of seed) 0 (core_opening c first) events answer) new
+passed_begun history old new c first seed drawn start answer events words opened h =
     subst (λ b. history old (passes core_machine (draws_of seed) 0 b events answer) new) opened
     (subst (λ d. history old (passes core_machine (draws_of d.seed) d.given start events answer) new) words h)
 
-ran_begun : (c : Config) (seed : List ℕ) (drawn : Drawn) (start core : Running) (limit : ℕ)
-    (answer : Served) (events : List Event) → drawn ≡ record { seed = seed; given = 0 } → start ≡ core_opening c
+ran_begun : (c : Config) (first : Cache) (seed : List ℕ) (drawn : Drawn) (start core : Running) (limit : ℕ)
+    (answer : Served) (events : List Event) → drawn ≡ record { seed = seed; given = 0 } → start ≡ core_opening c first
     → Ran core_machine (draws_of drawn.seed) drawn.given start core limit events answer
-    → Ran core_machine (draws_of seed) 0 (core_opening c) core limit events answer
-ran_begun c seed drawn start core limit answer events words opened r =
+    → Ran core_machine (draws_of seed) 0 (core_opening c first) core limit events answer
+ran_begun c first seed drawn start core limit answer events words opened r =
     subst (λ b. Ran core_machine (draws_of seed) 0 b core limit events answer) opened
     (subst (λ d. Ran core_machine (draws_of d.seed) d.given start core limit events answer) words r)
 
@@ -125,23 +126,23 @@ Follows {W} history = (a b c : W) (x : Exchange) (ys : List Exchange) → histor
 
 -- A world listened, and a core served its events.
 pub serves : {W : Type 0} (history : W → List Exchange → W → Type 0) (used_up : W → Type 0) (broken : W → ℕ → Type 0)
-    (old mid new : W) (c : Config) (seed : List ℕ) (drawn : Drawn) (start core : Running) (limit : ℕ) (answer : Served) (status : Status) (events : List Event)
+    (old mid new : W) (c : Config) (first : Cache) (seed : List ℕ) (drawn : Drawn) (start core : Running) (limit : ℕ) (answer : Served) (status : Status) (events : List Event)
     → Follows history → HaveSixteen c.zones → history old (listened c.ip c.ipsend true ∷ []) mid
-    → drawn ≡ record { seed = seed; given = 0 } → start ≡ core_opening c
+    → drawn ≡ record { seed = seed; given = 0 } → start ≡ core_opening c first
     → history mid (passes core_machine (draws_of drawn.seed) drawn.given start events answer) new
     → Ran core_machine (draws_of drawn.seed) drawn.given start core limit events answer
     → Justified answer (used_up new) (broken new) → status ≡ status_from answer
-    → Serving history used_up broken old new c seed limit status core
-serves history used_up broken old mid new c seed drawn start core limit answer status events follows places listening words opened passed ran just ended =
-    let r = ran_begun c seed drawn start core limit answer events words opened ran in
-    let h = passed_begun history mid new c seed drawn start answer events words opened passed in
-    let all = follows old mid new (listened c.ip c.ipsend true) _ listening (subst (λ l. history mid l new) (serving_is c seed events answer (length events) limit r.ends) h) in
-    subst (λ a. Serving history used_up broken old new c seed limit a core) (sym ended) (record {
+    → ServingFrom history used_up broken old new c first seed limit status core
+serves history used_up broken old mid new c first seed drawn start core limit answer status events follows places listening words opened passed ran just ended =
+    let r = ran_begun c first seed drawn start core limit answer events words opened ran in
+    let h = passed_begun history mid new c first seed drawn start answer events words opened passed in
+    let all = follows old mid new (listened c.ip c.ipsend true) _ listening (subst (λ l. history mid l new) (serving_is c first seed events answer (length events) limit r.ends) h) in
+    subst (λ a. ServingFrom history used_up broken old new c first seed limit a core) (sym ended) (record {
       events = events;
       bounded = r.bounded;
       passed = all;
-      core_is = r.state ∙ run_state c seed events;
-      trust = run_trusted c seed events places r.bounded;
+      core_is = r.state ∙ run_state c first seed events;
+      trust = begun_trusted c first seed events places r.bounded;
       closes = closes answer (length events) limit (used_up new) (broken new) r.ends just;
     })
 
@@ -164,22 +165,13 @@ count_err (Ok x) n e = cc
 count_err (Err x) n e = refl
 
 -- Nothing was served where the world failed to listen.
-pub unserved : {W : Type 0} (history : W → List Exchange → W → Type 0) (used_up : W → Type 0) (broken : W → ℕ → Type 0) (old new : W) (configured : Config → Type 0)
-    (c : Config) (taken : List ℕ) (left : Option (List ℕ)) (limit : ℕ) (status : Status) (core : Option Running)
-    → status ≡ WorldFault → core ≡ None → configured c → length taken ≡ 32 → history old (listened c.ip c.ipsend false ∷ []) new
-    → IsSession history used_up broken old new configured taken left limit status core
-unserved history used_up broken old new configured c taken left limit status core fault none fits whole passed =
-    subst (λ k. IsSession history used_up broken old new configured taken left limit status k) (sym none)
-    (subst (λ s. IsSession history used_up broken old new configured taken left limit s None) (sym fault) (whole, (c, fits, passed)))
-
--- Nothing was served, and the world wasn't asked for anything.
-pub unheard : {W : Type 0} (history : W → List Exchange → W → Type 0) (used_up : W → Type 0) (broken : W → ℕ → Type 0) (old new : W) (configured : Config → Type 0)
-    (taken : List ℕ) (left : Option (List ℕ)) (limit : ℕ) (status known : Status) (core : Option Running)
-    → status ≡ known → core ≡ None → Refused known taken left → Unserved history old new configured known
-    → IsSession history used_up broken old new configured taken left limit status core
-unheard history used_up broken old new configured taken left limit status known core is none why passed =
-    subst (λ k. IsSession history used_up broken old new configured taken left limit status k) (sym none)
-    (subst (λ s. IsSession history used_up broken old new configured taken left limit s None) (sym is) (why, passed))
+pub unserved : {W : Type 0} (history : W → List Exchange → W → Type 0) (used_up : W → Type 0) (broken : W → ℕ → Type 0) (old new : W)
+    (c : Config) (first : Cache) (seed : List ℕ) (limit : ℕ) (status : Status) (core : Option Running)
+    → status ≡ WorldFault → core ≡ None → history old (listened c.ip c.ipsend false ∷ []) new
+    → ServesFrom history used_up broken old new c first seed limit status core
+unserved history used_up broken old new c first seed limit status core fault none passed =
+    subst (λ k. ServesFrom history used_up broken old new c first seed limit status k) (sym none)
+    (subst (λ s. ServesFrom history used_up broken old new c first seed limit s None) (sym fault) passed)
 
 -- Which variable is bad
 
@@ -208,18 +200,3 @@ pub refused_variable : (error : ConfigError) (status : Status) (bad : Option Nam
     → (v : Named) → (status ≡ BadVariable v) ↔ (bad ≡ Some v)
 refused_variable error status bad is told v =
     (λ e. (told v).0 (ap refusal (named_by error v (sym is ∙ e))), λ e. is ∙ ap status_by ((told v).1 e))
-
--- Where the configuration stands, none is.
-pub no_variable : (c : Config) (status : Status) (bad : Option Named) → ((v : Named) → status ≡ BadVariable v → ⊥)
-    → ((v : Named) → (stands c ≡ refusal (config.BadVariable v)) ↔ (bad ≡ Some v))
-    → (v : Named) → (status ≡ BadVariable v) ↔ (bad ≡ Some v)
-no_variable c status bad other told v =
-    (λ e. absurd (other v e), λ e. let never : stands c ≡ refusal (config.BadVariable v) = (told v).1 e in cc)
-
--- Nor behind the loop.
-pub ended_otherwise : (answer : Served) (status : Status) → status ≡ status_from answer → (v : Named) → status ≡ BadVariable v → ⊥
-ended_otherwise served.Finished status is v e = cc
-ended_otherwise served.Spent status is v e = cc
-ended_otherwise served.Ended status is v e = cc
-ended_otherwise served.Failed status is v e = cc
-ended_otherwise (served.Bad k) status is v e = cc

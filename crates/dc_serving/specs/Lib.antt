@@ -1,3 +1,4 @@
 pub mod Runs
 pub mod Seeded
 pub mod Serving
+pub mod Setup

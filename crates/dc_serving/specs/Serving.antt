@@ -4,6 +4,7 @@ use Rattle.std.specs.declared.option.Option.{Option}
 use Rattle.std.specs.declared.option.Option.TheVariants.{None, Some}
 use Rattle.std.specs.Io.KnownBytes.{IsAtEnd}
 use Rattle.std.specs.Prelude.{Result, Ok, Err}
+use Rattle.dc_model.specs.Cache.{Cache, empty}
 use Rattle.dc_model.specs.Event.{Event, IsEvent, line}
 use Rattle.dc_model.specs.Line.{line_starting}
 use Rattle.dc_machine.specs.Machine.{Machine, wake}
@@ -20,23 +21,23 @@ use Rattle.dc_config.specs.declared.error.ConfigError.{ConfigError}
 use Rattle.dc_config.specs.declared.error.ConfigError.TheVariants as config
 use Rattle.dc_core.specs.Running.{Running}
 use Rattle.dc_trust.specs.Promises.{KeepsPromises}
-use Rattle.dc_serving.specs.Runs.{cache_of, run_with}
+use Rattle.dc_serving.specs.Runs.{cache_of, run_from}
 use Rattle.dc_serve.specs.declared.Served.{Served as Answer}
 use Rattle.dc_serve.specs.declared.Served.TheVariants as served
 use Rattle.dc_status.specs.declared.status.Status.{Status}
 use Rattle.dc_status.specs.declared.status.Status.TheVariants.{Done, Spent, Usage, BadVariable, NoRoot, BadZone, BadPermit, FilesFault, SeedShort, ReadFault, WriteFault, BadScript, BadImage, Unequal, WorldFault, NoMemory}
 
--- The machine behind it.
-unfoldable pub machine_after : Config → List ℕ → List Event → Machine
-machine_after c seed events = last_of (opening (cache_of c)) (run_with c seed events)
+-- The machine behind these events, from a first cache.
+unfoldable pub machine_from : Config → Cache → List ℕ → List Event → Machine
+machine_from c first seed events = last_of (opening first) (run_from c first seed events)
 
 -- What passes at one event of a run: the world is asked with the machine's wake, gives the event, and the event's actions are done.
 abbrev pub at_event : Taken → List Exchange
 at_event t = asked (wake t.before) (gave t.event) ∷ done_all t.stepped.actions
 
--- What passes while the machine serves these events: the opening line is written, and then each event is handled.
-unfoldable pub machine_passes : Config → List ℕ → List Event → List Exchange
-machine_passes c seed events = did (line line_starting) ∷ flat_map at_event (run_with c seed events)
+-- What passes while the machine serves these events, from a first cache: the opening line is written, and then each event is handled.
+unfoldable pub machine_passes : Config → Cache → List ℕ → List Event → List Exchange
+machine_passes c first seed events = did (line line_starting) ∷ flat_map at_event (run_from c first seed events)
 
 -- The call of `next` that gave no event, where there was one.
 abbrev pub last_passes : Status → Machine → List Exchange
@@ -45,10 +46,15 @@ last_passes (BadScript k) m = asked (wake m) (bad k) ∷ []
 last_passes WorldFault m = asked (wake m) failed ∷ []
 last_passes status m = []
 
--- All that passes in a session: the world listens on the configured addresses, the machine serves these events, and then no event is given,
--- where the session ended so.
+-- All that passes in a session that begins with a first cache: the world listens on the configured addresses, the machine serves these
+-- events, and then no event is given, where the session ended so.
+abbrev pub passes_from : Config → Cache → List ℕ → List Event → Status → List Exchange
+passes_from c first seed events status =
+    listened c.ip c.ipsend true ∷ (machine_passes c first seed events ++ last_passes status (machine_from c first seed events))
+
+-- The same, where the cache is empty at first.
 abbrev pub session_passes : Config → List ℕ → List Event → Status → List Exchange
-session_passes c seed events status = listened c.ip c.ipsend true ∷ (machine_passes c seed events ++ last_passes status (machine_after c seed events))
+session_passes c seed events status = passes_from c (cache_of c) seed events status
 
 -- How serving ends: by what the world answered last, or where as many events were handled as are allowed.
 abbrev pub Closes : Status → (count limit : ℕ) → (used_up : Type 0) → (broken : ℕ → Type 0) → Type 0
@@ -69,15 +75,34 @@ Closes ReadFault count limit used_up broken = ⊥
 Closes WriteFault count limit used_up broken = ⊥
 Closes NoMemory count limit used_up broken = ⊥
 
--- Events were served between two states of the world, with a configuration and a seed: this passed, and the core is that of the machine.
-pub record Serving {W : Type 0} (history : W → List Exchange → W → Type 0) (used_up : W → Type 0) (broken : W → ℕ → Type 0)
-    (old new : W) (c : Config) (seed : List ℕ) (limit : ℕ) (status : Status) (core : Running) : Type 0 where
+-- Events were served between two states of the world, with a configuration and a seed, by a core that began with a first cache: this passed,
+-- and the core is that of the machine. Where the first cache was empty, the run keeps its promises.
+pub record ServingFrom {W : Type 0} (history : W → List Exchange → W → Type 0) (used_up : W → Type 0) (broken : W → ℕ → Type 0)
+    (old new : W) (c : Config) (first : Cache) (seed : List ℕ) (limit : ℕ) (status : Status) (core : Running) : Type 0 where
   pub events : List Event
   pub bounded : All IsEvent events
-  pub passed : history old (session_passes c seed events status) new
-  pub core_is : core ≡ record { rules = rules_of c; machine = machine_after c seed events; handled = length events }
-  pub trust : KeepsPromises (rules_of c).zones (run_with c seed events)
+  pub passed : history old (passes_from c first seed events status) new
+  pub core_is : core ≡ record { rules = rules_of c; machine = machine_from c first seed events; handled = length events }
+  pub trust : (size : ℕ) → first ≡ empty size → KeepsPromises (rules_of c).zones (run_from c first seed events)
   pub closes : Closes status (length events) limit (used_up new) (broken new)
+
+-- The same, where the cache was empty at first.
+abbrev pub Serving : {W : Type 0} (history : W → List Exchange → W → Type 0) (used_up : W → Type 0) (broken : W → ℕ → Type 0)
+    (old new : W) (c : Config) (seed : List ℕ) (limit : ℕ) (status : Status) (core : Running) → Type 0
+Serving history used_up broken old new c seed limit status core = ServingFrom history used_up broken old new c (cache_of c) seed limit status core
+
+-- Why nothing was served, with a configuration and a seed: there wasn't memory enough, and the world wasn't asked for anything; or it was asked
+-- once to listen on the configured addresses, and failed.
+abbrev pub Unheard : {W : Type 0} (history : W → List Exchange → W → Type 0) (old new : W) → Config → Status → Type 0
+Unheard history old new c NoMemory = history old [] new
+Unheard history old new c WorldFault = history old (listened c.ip c.ipsend false ∷ []) new
+Unheard history old new c status = ⊥
+
+-- What became of serving with a configuration, a first cache and a seed, by the core that it leaves.
+abbrev pub ServesFrom : {W : Type 0} (history : W → List Exchange → W → Type 0) (used_up : W → Type 0) (broken : W → ℕ → Type 0)
+    (old new : W) (c : Config) (first : Cache) (seed : List ℕ) (limit : ℕ) (status : Status) → Option Running → Type 0
+ServesFrom history used_up broken old new c first seed limit status None = Unheard history old new c status
+ServesFrom history used_up broken old new c first seed limit status (Some core) = ServingFrom history used_up broken old new c first seed limit status core
 
 -- The configuration is the one that is defined, where the files tell it.
 abbrev pub IsConfigured : Environment → Option Tree → Config → Type 0

@@ -6,8 +6,10 @@ mod memory;
 mod seed;
 mod serving;
 mod session;
+mod setup;
 
-pub use memory::{core_of, memory_of};
+pub use memory::{core_of, memory_of, store_of};
 pub use seed::{SEED, Seed, take_seed};
-pub use serving::serve_command;
+pub use serving::{serve_command, serve_from};
 pub use session::{Session, status_of};
+pub use setup::{Basis, set_up};

@@ -39,13 +39,13 @@ returns-in-Simulate-clause-files_fare g c =
     fares_as files.asked files.refused files.faults c.args.files.now c.args.files.now true (files_well (fault_of c.from.result)) (sym well) refl
 
 pub returns-in-Simulate-clause-source_fares : goal.returns-in-Simulate-clause-source_fares
-returns-in-Simulate-clause-source_fares g c =
+returns-in-Simulate-clause-source_fares g c = λ other.
     let source = g.S.Source in
     let well = ap (λ s. source_well (fault_of s)) c.from.ensures ∙ simulated_source c.simulate_command.result in
     fares_as source.took source.refused source.faults c.args.source.now c.args.source.now true (source_well (fault_of c.from.result)) (sym well) refl
 
 pub returns-in-Simulate-clause-sink_fares : goal.returns-in-Simulate-clause-sink_fares
-returns-in-Simulate-clause-sink_fares g c =
+returns-in-Simulate-clause-sink_fares g c = λ other.
     let sink = g.K.Sink in
     let well = simulated_sink c.simulate_command.result ∙ ap (λ s. sink_well (fault_of s)) (sym c.from.ensures) in
     fares_as sink.gained sink.refused sink.faults _ _ (writes_well c.simulate_command.result) (sink_well (fault_of c.from.result)) well c.simulate_command.ensures.fares
@@ -70,7 +70,7 @@ returns-in-Audit-clause-usage g c = (
 )
 
 pub returns-in-Audit-clause-source_fares : goal.returns-in-Audit-clause-source_fares
-returns-in-Audit-clause-source_fares g c =
+returns-in-Audit-clause-source_fares g c = λ other.
     let source = g.S.Source in
     let well = audited_source _ _ _ _ _ _ _ _ c.audit_command.result c.audit_command.ensures.audited in
     fares_as source.took source.refused source.faults c.args.source.now c.args.source.now true (source_well (fault_of c.audit_command.result)) (sym well) refl
