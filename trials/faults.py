@@ -90,7 +90,7 @@ def few_descriptors(program):
     again = [code for i in range(0, 100, 5) for code in asks(names[i : i + 5], 5)]
     says(
         "100 names at once with 20 descriptors",
-        len(first) == 100 and again == [0] * 100,
+        first == [0] * 100 and again == [0] * 100,
         f"{len(first)} answered at first, {first.count(0)} of them with an address; {again.count(0)} of 100 with an address when they are asked again, five at a time",
     )
     process.kill()
