@@ -206,12 +206,16 @@ fn heads_and_words(rt: HostRuntime) -> Result<(), Fail> {
     Ok(())
 }
 
-/// How clients are served: the first variable, those behind CACHESIZE, the first file, how long the seed is, and which calls of the world's
-/// source fail.
+/// A variable's name and its value.
+type Setting = (&'static str, &'static str);
+
+/// How clients are served: the first variable, at most two behind CACHESIZE, the first file, how long the seed is, and which calls of the
+/// world's source fail.
 #[derive(Clone, Copy)]
 struct Service {
     variable: &'static str,
-    modes: &'static [(&'static str, &'static str)],
+    mode: Option<Setting>,
+    further: Option<Setting>,
     file: &'static str,
     seed: usize,
     failing: &'static [u64],
@@ -220,7 +224,8 @@ struct Service {
 /// All goes well.
 const GOOD: Service = Service {
     variable: "IP",
-    modes: &[],
+    mode: None,
+    further: None,
     file: "servers/@",
     seed: 32,
     failing: &[],
@@ -236,11 +241,13 @@ impl Service {
         env.set(String::from_str(alloc, "IPSEND")?, address);
         let size = String::from_str(alloc, "10000")?;
         env.set(String::from_str(alloc, "CACHESIZE")?, size);
-        for (name, value) in self.modes {
-            env.set(
-                String::from_str(alloc, name)?,
-                String::from_str(alloc, value)?,
-            );
+        if let Some((name, value)) = self.mode {
+            let value = String::from_str(alloc, value)?;
+            env.set(String::from_str(alloc, name)?, value);
+        }
+        if let Some((name, value)) = self.further {
+            let value = String::from_str(alloc, value)?;
+            env.set(String::from_str(alloc, name)?, value);
         }
         Ok(env)
     }
@@ -319,36 +326,51 @@ fn serving(rt: HostRuntime) -> Result<(), Fail> {
 /// How the variables choose the way in which clients are served, and which of them are refused.
 #[test]
 fn ways_to_serve(rt: HostRuntime) -> Result<(), Fail> {
-    let rows: [(&'static [(&'static str, &'static str)], Status, &[u8]); 10] = [
-        (&[("EVENTS", "x")], Status::Done, ANSWERED),
-        (&[("CORES", "1")], Status::Done, ANSWERED),
-        (&[("CORES", "9")], Status::BadVariable(Variable::Cores), b""),
-        (&[("CORES", "")], Status::BadVariable(Variable::Cores), b""),
-        (&[("IMAGE", "image")], Status::Done, ANSWERED),
+    let image = Some(("IMAGE", "image"));
+    let rows: [(Option<Setting>, Option<Setting>, Status, &[u8]); 10] = [
+        (Some(("EVENTS", "x")), None, Status::Done, ANSWERED),
+        (Some(("CORES", "1")), None, Status::Done, ANSWERED),
         (
-            &[("IMAGE", "image"), ("EVENTS", "1")],
-            Status::Spent,
-            ANSWERED,
+            Some(("CORES", "9")),
+            None,
+            Status::BadVariable(Variable::Cores),
+            b"",
         ),
         (
-            &[("IMAGE", "image"), ("EVENTS", "x")],
+            Some(("CORES", "")),
+            None,
+            Status::BadVariable(Variable::Cores),
+            b"",
+        ),
+        (image, None, Status::Done, ANSWERED),
+        (image, Some(("EVENTS", "1")), Status::Spent, ANSWERED),
+        (
+            image,
+            Some(("EVENTS", "x")),
             Status::BadVariable(Variable::Events),
             b"",
         ),
-        (&[("RECORD", "")], Status::Done, ANSWERED),
+        (Some(("RECORD", "")), None, Status::Done, ANSWERED),
         (
-            &[("IMAGE", "image"), ("RECORD", "")],
+            image,
+            Some(("RECORD", "")),
             Status::BadVariable(Variable::Record),
             b"",
         ),
         (
-            &[("CORES", "9"), ("IMAGE", "")],
+            image,
+            Some(("CORES", "9")),
             Status::BadVariable(Variable::Image),
             b"",
         ),
     ];
-    for (modes, wanted, told) in rows {
-        let (status, text) = Service { modes, ..GOOD }.serve(&rt, rt.alloc())?;
+    for (mode, further, wanted, told) in rows {
+        let (status, text) = Service {
+            mode,
+            further,
+            ..GOOD
+        }
+        .serve(&rt, rt.alloc())?;
         assert_eq!(rt; status, wanted);
         assert_eq!(rt; &text[..], told);
     }
