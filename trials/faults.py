@@ -17,6 +17,7 @@ import near
 
 ADDRESS, SEND_FROM, ROOT = "127.53.6.53", "127.53.6.54", "127.53.6.1"
 FAULT = "dnscache: fatal: network or log fault\n"
+TAKEN = f"{ADDRESS}:53: Address already in use (os error 98)\n"
 CLONE_NEWNET = 0x40000000
 failed = []
 
@@ -71,7 +72,7 @@ def taken_port(program):
     status = ends(process, 5)
     text = open(folder + "/log").read()
     holder.close()
-    says("the port is taken over UDP", status == 111 and text == FAULT, f"status {status}, says {text!r}")
+    says("the port is taken over UDP", status == 111 and text == "dnscache: warning: unable to take datagrams at " + TAKEN + FAULT, f"status {status}, says {text!r}")
     holder = socket.socket()
     holder.bind((ADDRESS, 53))
     holder.listen()
@@ -79,7 +80,7 @@ def taken_port(program):
     status = ends(process, 5)
     text = open(folder + "/log").read()
     holder.close()
-    says("the port is taken over TCP", status == 111 and text == FAULT, f"status {status}, says {text!r}")
+    says("the port is taken over TCP", status == 111 and text == "dnscache: warning: unable to take connections at " + TAKEN + FAULT, f"status {status}, says {text!r}")
 
 
 def few_descriptors(program):
