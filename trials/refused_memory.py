@@ -1,7 +1,8 @@
 #!/usr/bin/env python3
 """Refuses each allocation in turn, and lets each read and write of the standard streams fail, fall short or be interrupted in turn: of a replay, of a
-simulation, of a service that a client asks once, and of the lookup tools where their folder is given. Counts the allocations of a service before and
-after 10,000 queries. It isn't part of the gate.
+simulation, of a service that a client asks once, and of the lookup tools and the filter where their folder is given. A tool to which memory is
+refused has written the texts of the words before, and the filter nothing. Counts the allocations of a service before and after 10,000 queries. It
+isn't part of the gate.
 
   trials/refused_memory.py PROGRAM [TOOLS]
 """
@@ -55,25 +56,29 @@ def counts():
     return struct.unpack("qq", open(room + "/counts", "rb").read())
 
 
-def memory(what, words, text, wanted_front):
-    """Each allocation is refused in turn, until a run needs none more."""
+def memory(what, words, text, may_be):
+    """Each allocation is refused in turn, until a run needs none more. What is written is what it may be, and never less than where an earlier one is refused."""
     whole = runs(words, text, {"COUNTED": room + "/counts"})
     needed = counts()[0]
     wrong = 0
+    lines = [0]
     for number in range(1, needed + 1):
         status, output, said = runs(words, text, {"REFUSE": str(number)})
-        if status != 111 or not said.endswith(OUT_OF_MEMORY) or not wanted_front(output, whole[1]):
+        if status != 111 or not said.endswith(OUT_OF_MEMORY) or not may_be(output, whole[1]) or output.count(b"\n") < lines[-1]:
             wrong += 1
+        lines.append(output.count(b"\n"))
     beyond = runs(words, text, {"REFUSE": str(needed + 1)})
-    says(f"memory of {what}", whole[0] == 0 and wrong == 0 and beyond == whole, f"{needed} allocations refused in turn, {wrong} with another end than want of memory")
+    told = f"{needed} allocations refused in turn, with {sorted(set(lines))} lines written, {wrong} with another end than want of memory"
+    says(f"memory of {what}", whole[0] == 0 and wrong == 0 and beyond == whole, told)
 
 
 def nothing(output, whole):
     return output == b""
 
 
-def front(output, whole):
-    return whole.startswith(output)
+def texts_before(output, whole):
+    """The texts of the first words, each of which is a line."""
+    return output == b"" or output.endswith(b"\n") and whole.startswith(output) and output != whole
 
 
 def streams(what, words, text, ends):
@@ -142,17 +147,18 @@ near.serve(ROOT, 0)
 service()
 if tools:
     process = near.start(program, ADDRESS, SEND_FROM, ROOT)
-    for words in (
-        ["dnsip", "a.w.trial", "b.w.trial"],
-        ["dnsname", "192.0.2.7"],
-        ["dnstxt", "a.w.trial"],
-        ["dnsmx", "a.w.trial"],
-        ["dnsqr", "a", "a.w.trial"],
+    for words, text, may_be in (
+        (["dnsip", "192.0.2.77", "a.w.trial", "192.0.2.78", "b.w.trial"], b"", texts_before),
+        (["dnsname", "192.0.2.7"], b"", nothing),
+        (["dnstxt", "a.w.trial"], b"", nothing),
+        (["dnsmx", "a.w.trial"], b"", nothing),
+        (["dnsqr", "a", "a.w.trial"], b"", nothing),
+        (["dnsfilter"], b"192.0.2.7 a\n\nb\n", nothing),
     ):
         if not os.path.exists(tools + "/" + words[0]):
             continue
         words = [tools + "/" + words[0], *words[1:]]
-        memory(os.path.basename(words[0]), words, b"", front)
-        streams(os.path.basename(words[0]), words, b"", [b"unable to write output\n"])
+        memory(os.path.basename(words[0]), words, text, may_be)
+        streams(os.path.basename(words[0]), words, text, [b"unable to write output\n"] + ([b"unable to read input\n"] if text else []))
     process.kill()
 sys.exit(1 if failed else 0)

@@ -54,6 +54,8 @@ done
 # status WANTED TOOL WORDS..
 status() { mine "${@:2}" >/dev/null; is "exit status of ${*:2}" "$1" "$?"; }
 status 0 dnsip www.test
+# The empty word is the root.
+status 0 dnsip ""
 status 100 dnsip
 status 100 dnsip a..b
 status 100 dnsip "$(printf 'x%.0s' $(seq 64)).test"
