@@ -152,7 +152,7 @@ if tools:
         (["dnsname", "192.0.2.7"], b"", nothing),
         (["dnstxt", "a.w.trial"], b"", nothing),
         (["dnsmx", "a.w.trial"], b"", nothing),
-        (["dnsqr", "a", "a.w.trial"], b"", nothing),
+        (["dnsqr", "a", "localhost"], b"", nothing),
         (["dnsfilter"], b"192.0.2.7 a\n\nb\n", nothing),
     ):
         if not os.path.exists(tools + "/" + words[0]):

@@ -80,7 +80,7 @@ if command -v /usr/bin/time >/dev/null; then
 fi
 
 if command -v hyperfine >/dev/null; then
-  hyperfine -N -w 5 -r 100 --export-csv "$room/times" "env DNSCACHEIP=127.53.1.53 $tools/dnsip www.test" "env DNSCACHEIP=127.53.1.53 dnsip www.test" >/dev/null 2>&1
-  awk -F, 'NR == 2 { ours = $2 } NR == 3 { printf "dnsip of a cached name, ratio to Debian'"'"'s: %.2f\n", ours / $2 }' "$room/times"
+  hyperfine -N -w 5 -r 300 --export-csv "$room/times" "env DNSCACHEIP=127.53.1.53 $tools/dnsip www.test" "env DNSCACHEIP=127.53.1.53 dnsip www.test" >/dev/null 2>&1
+  awk -F, 'NR == 2 { ours = $4 } NR == 3 { printf "dnsip of a cached name, ratio of the medians to Debian'"'"'s: %.2f\n", ours / $4 }' "$room/times"
 fi
 exit $failed
