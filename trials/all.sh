@@ -10,7 +10,7 @@ cd "$(dirname "$0")"
 program=$(realpath "${1:?the program}")
 shift
 trials=("$@")
-[ $# -gt 0 ] || trials=(hurried.py faults.py exhausted.py half_closed.py kept.py refused_memory.py record.sh speed.py)
+[ $# -gt 0 ] || trials=(hurried.py faults.py exhausted.py half_closed.py kept.py refused_memory.py record.sh speed.py shared_port.sh split.sh image.sh)
 kept=$(mktemp -d /tmp/dnscache-trials.XXXXXX)
 echo "what is printed goes to $kept"
 fell_short=()

@@ -1,7 +1,7 @@
 #!/usr/bin/env python3
 """A service that keeps its cache, over real sockets: it begins with none and leaves an image, begins with that and answers from it, ends by
-SIGTERM, is refused a bad image, is killed at 40 moments of its save, and is started again and again by a supervisor under a load over TCP and UDP.
-It isn't part of the gate.
+SIGTERM, is refused a bad image, has written its last lines when it has ended, is killed at 40 moments of its save, and is started again and again by
+a supervisor under a load over TCP and UDP. It isn't part of the gate.
 
   trials/kept.py PROGRAM
 """
@@ -108,6 +108,20 @@ def two_runs(program):
         file.write(kept)
     fourth = start(program, room, 2000000, None)
     says("an image of another size is refused", fourth.wait(10) == 111, f"status {fourth.returncode}")
+
+
+def last_lines(program):
+    """A run of five questions, each one event, which the service answers by itself: behind the last it doesn't wait again, and its log has to have
+    the lines of that one too. The trial looks when the service has ended."""
+    room = near.folder(ROOT)
+    process = start(program, room, 1000000, 5)
+    near_stands(process)
+    codes = [asks("localhost") for _ in range(5)]
+    status = process.wait(30)
+    lines = open(room + "/log").read().splitlines()
+    heads = [line.split(" ")[0:2] for line in lines]
+    wanted = [["starting"]] + [[word, str(number)] for number in range(1, 6) for word in ("query", "sent")]
+    says("a run that ends by EVENTS has its last lines on the log", status == 0 and codes == [0] * 5 and heads == wanted, f"codes {codes}, status {status}, {len(lines)} lines, of which the last are {lines[-2:]}")
 
 
 def is_loaded(program, room, size):
@@ -227,6 +241,7 @@ def supervised(program):
 program = sys.argv[1]
 near.serve(ROOT, 0.0)
 two_runs(program)
+last_lines(program)
 killed_while_saving(program)
 supervised(program)
 sys.exit(1 if failed else 0)
