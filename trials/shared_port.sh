@@ -15,7 +15,7 @@ needs tinydns tinydns-data axfrdns tcpserver dig unbound taskset gcc bc
 
 gcc -O2 -pthread -o "$room/load" load.c || exit 1
 wildcard 127.53.9.1 127.53.9.2
-for i in $(seq -w 1000); do echo "c$i.w.trial"; done > "$room/names"
+seq -w 1000 | sed 's/.*/c&.w.trial/' > "$room/names"
 processors=$(nproc)
 declare -A one
 

@@ -16,8 +16,8 @@ needs tinydns tinydns-data axfrdns tcpserver dig taskset gcc bc
 gcc -O2 -pthread -o "$room/load" load.c || exit 1
 processors=$(nproc)
 wildcard 127.53.10.1 127.53.10.2
-for i in $(seq -w 1000); do echo "c$i.w.trial"; done > "$room/cached"
-for i in $(seq -w 2000000); do echo "f$i.w.trial"; done > "$room/fetched"
+seq -w 1000 | sed 's/.*/c&.w.trial/' > "$room/cached"
+seq -w 2000000 | sed 's/.*/f&.w.trial/' > "$room/fetched"
 for one in "${started[@]}"; do taskset -pc "$((processors > 1))-$((processors - 1))" "$one" > "$room/pinned"; done
 
 # field NAME: the field of that name of what the load says.
