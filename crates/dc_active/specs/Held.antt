@@ -1,5 +1,6 @@
 -- The active queries that the fields of `Actives` hold.
 use Rattle.std.specs.Prelude.{◌≡◌, ◌+◌, ◌≤◌, length, IsNone, vec_capacity, vec_len}
+use Rattle.dc_model.specs.Limits.{most_works}
 use Rattle.dc_machine.specs.Kept.{AllOf}
 use Rattle.dc_machine.specs.Machine.{udp_queries}
 use Rattle.dc_active.specs.Roll.{Roll}
@@ -15,6 +16,6 @@ pub record IsKept (a : Inside) : Type 0 where
   pub fit : AllOf IsFit a.entries.items
   pub idle : AllOf (λ w. IsNone w.value.sender.attempt) a.spare.items
   pub udp : a.udp ≡ length (udp_queries (queries_of a.entries.items))
-  pub most : vec_len a.entries + vec_len a.spare ≤ 221
-  pub entries : 221 ≤ vec_capacity a.entries
-  pub works : 221 ≤ vec_capacity a.spare
+  pub most : vec_len a.entries + vec_len a.spare ≤ most_works
+  pub entries : most_works ≤ vec_capacity a.entries
+  pub works : most_works ≤ vec_capacity a.spare

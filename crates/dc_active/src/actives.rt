@@ -1,6 +1,7 @@
 //! The active queries.
 ghost use Rattle.std.specs.Prelude.{◌≡◌, ◌<◌, ◌≤◌, ◌+◌, ◌-◌, ◌==◌, [], length, Some, IsNone, IfOk, IfSome, option_map, slice_get};
 ghost use Rattle.std.specs.List.{list_any, position, remove};
+ghost use Rattle.dc_model.specs.Limits.{most_works};
 ghost use Rattle.dc_machine.specs.Machine.{is_udp, is_on, udp_queries, with_query};
 ghost use Rattle.dc_active.specs.View.{client_of, active_of, IsWaiting};
 ghost use Rattle.dc_active.specs.Places.{IsEarliestOf};
@@ -8,7 +9,8 @@ ghost use Rattle.dc_active.specs.Places.{IsEarliestOf};
 use crate::client::Client;
 use crate::entry;
 use crate::entry::Entry;
-use crate::work::{MOST_QUERIES, Taken, Work, spare_works};
+use crate::work::{Taken, Work, spare_works};
+use dc_limits::MOST_WORKS;
 use std::alloc::{AllocError, Global};
 use std::marker::Model;
 
@@ -37,10 +39,10 @@ impl Model for Actives {
 impl Actives {
     /// No active query, and 221 spare works.
     pub fn new(alloc: Global) -> Result<Actives, AllocError>
-        ensures { IfOk result (λ actives. actives ≡ record { queries = []; spare = 221 }) }
+        ensures { IfOk result (λ actives. actives ≡ record { queries = []; spare = most_works }) }
     {
         Ok(Actives {
-            entries: Vec::with_capacity(alloc, MOST_QUERIES)?,
+            entries: Vec::with_capacity(alloc, MOST_WORKS)?,
             spare: spare_works(alloc)?,
             udp: 0,
         })
@@ -49,7 +51,7 @@ impl Actives {
     /// How many queries are active.
     pub fn len(&self) -> usize
         ensures value { result ≡ length self.now.queries }
-        ensures most { length self.now.queries + self.now.spare ≤ 221 }
+        ensures most { length self.now.queries + self.now.spare ≤ most_works }
     {
         self.entries.len()
     }
@@ -57,7 +59,7 @@ impl Actives {
     /// How many of them are of clients over UDP.
     pub fn udp(&self) -> usize
         ensures value { result ≡ length (udp_queries self.now.queries) }
-        ensures most { result ≤ 221 }
+        ensures most { result ≤ most_works }
     {
         self.udp
     }
@@ -152,7 +154,7 @@ impl Actives {
     /// Puts in a query that waits, in the order of serial numbers.
     pub fn put(&mut self, taken: Taken)
         requires waiting { IsWaiting taken.work.value }
-        requires room { length self.old.queries + self.old.spare < 221 }
+        requires room { length self.old.queries + self.old.spare < most_works }
         ensures { self.new ≡ record self.old { queries = with_query (active_of taken) self.old.queries } }
     {
         let place = entry::place_for(&self.entries, taken.serial);
@@ -172,7 +174,7 @@ impl Actives {
     /// Takes back the work of a query that ended.
     pub fn give_back(&mut self, work: Box<Work>)
         requires idle { IsNone work.value.sender.attempt }
-        requires room { length self.old.queries + self.old.spare < 221 }
+        requires room { length self.old.queries + self.old.spare < most_works }
         ensures { self.new ≡ record self.old { spare = self.old.spare + 1 } }
     {
         self.spare.push(work).unwrap();

@@ -4,12 +4,9 @@ ghost use Rattle.dc_machine.specs.Kept.{AllOf};
 
 use crate::client::Client;
 use dc_frames::Query;
+use dc_limits::MOST_WORKS;
 use dc_transmit::Transmit;
 use std::alloc::{AllocError, Global};
-
-/// How many queries there may be: 200 active ones over UDP, one on each of 20 connections (after djbdns' dnscache.c, MAXUDP and
-/// MAXTCP), and one that begins.
-pub(crate) const MOST_QUERIES: usize = 221;
 
 /// What a query works with.
 #[derive(Drop)]
@@ -37,12 +34,12 @@ fn idle_work(alloc: Global) -> Result<Box<Work>, AllocError>
 
 /// Works for as many queries as may be active, each with an idle sender.
 pub(crate) fn spare_works(alloc: Global) -> Result<Vec<Box<Work>>, AllocError>
-    ensures many { IfOk result (λ works. vec_len works ≡ MOST_QUERIES) }
-    ensures room { IfOk result (λ works. MOST_QUERIES ≤ vec_capacity works) }
+    ensures many { IfOk result (λ works. vec_len works ≡ MOST_WORKS) }
+    ensures room { IfOk result (λ works. MOST_WORKS ≤ vec_capacity works) }
     ensures idle { IfOk result (λ works. AllOf (λ w. IsNone w.value.sender.attempt) works.items) }
 {
-    let mut works = Vec::with_capacity(alloc, MOST_QUERIES)?;
-    for i in 0..MOST_QUERIES {
+    let mut works = Vec::with_capacity(alloc, MOST_WORKS)?;
+    for i in 0..MOST_WORKS {
         works.push(idle_work(alloc)?).unwrap();
     }
     Ok(works)

@@ -9,9 +9,7 @@ ghost use Rattle.dc_answer.specs.Replies.{Replies, first_aliases, target_of};
 use dc_frames::Query;
 use dc_name::Name;
 use dc_reply::{Body, Reply};
-
-/// The type of a record that says what an alias stands for (RFC 1035, 3.2.2).
-const KIND_CNAME: u16 = 5;
+use dc_types::rtype;
 
 /// Begins the reply to a query's request, with its question alone.
 fn ask(query: &Query, reply: &mut Reply)
@@ -48,7 +46,7 @@ fn add_alias(query: &Query, reply: &mut Reply, i: usize) -> bool
     let alias = query.alias(i);
     reply.rr(
         &alias.name,
-        KIND_CNAME,
+        rtype::CNAME,
         alias.ttl,
         Body::Host(target(query, i)),
     )

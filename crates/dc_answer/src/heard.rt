@@ -17,12 +17,7 @@ use dc_frames::Query;
 use dc_name::Name;
 use dc_packet::{Data, Message, Rr, Section, kept_ttl};
 use dc_reply::Reply;
-
-/// The class of the internet.
-const CLASS_IN: u16 = 1;
-
-/// A request for all types.
-const KIND_ANY: u16 = 255;
+use dc_types::{class, rtype};
 
 /// The places, type and class of the record of this number.
 fn row(message: &Message<'_>, i: usize) -> Rr
@@ -62,7 +57,7 @@ fn is_answer(section: Section) -> bool
 fn is_wanted(wanted: u16, kind: u16) -> bool
     ensures { result ≡ marks.is_wanted wanted kind }
 {
-    kind == wanted || wanted == KIND_ANY
+    kind == wanted || wanted == rtype::ANY
 }
 
 /// Whether the client is told of the record of this number: an IN record of the answer section, of a wanted type, which the
@@ -73,7 +68,7 @@ fn is_heard(query: &Query, message: &Message<'_>, i: usize) -> bool
     ensures { result ≡ is_told (query_of query.now) (record_in message.now i) }
 {
     let rr = row(message, i);
-    rr.class == CLASS_IN
+    rr.class == class::IN
         && is_answer(rr.section)
         && is_wanted(query.wanted(), rr.kind)
         && owns(query.name(), message, i)

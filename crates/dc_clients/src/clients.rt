@@ -1,5 +1,6 @@
 //! The clients of a core: what they share, the active queries, and the open connections.
 ghost use Rattle.std.specs.Prelude.{◌≡◌, ◌+◌, ◌^◌, ◌<◌, length, IfOk};
+ghost use Rattle.dc_model.specs.Limits.{most_works};
 ghost use Rattle.dc_model.specs.Event.{Action};
 ghost use Rattle.dc_machine.specs.Machine.{udp_queries, is_udp, one_if};
 ghost use Rattle.dc_machine.specs.Run.{opening};
@@ -48,7 +49,7 @@ impl<S: Store + Drop> Clients<S> {
     pub fn new(alloc: Global, config: Config, store: S) -> Result<Clients<S>, AllocError>
         ensures machine { IfOk result (λ c. machine_of S.cache c ≡ opening (S.cache store)) }
         ensures rules { IfOk result (λ c. rules_of c ≡ settings.rules_of config) }
-        ensures works { IfOk result (λ c. works c ≡ 221) }
+        ensures works { IfOk result (λ c. works c ≡ most_works) }
     {
         Ok(Clients {
             desk: Desk {

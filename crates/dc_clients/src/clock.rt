@@ -1,5 +1,6 @@
 //! The clock: what is due first, and what a tick does.
 ghost use Rattle.std.specs.Prelude.{◌≡◌, ◌+◌, ◌<◌, ◌≤◌, ◌^◌, length, true, option_map, IfSome};
+ghost use Rattle.dc_model.specs.Limits.{most_active, most_works};
 ghost use Rattle.dc_model.specs.Transmission.{is_whole};
 ghost use Rattle.dc_machine.specs.Kept.{IsSound};
 ghost use Rattle.dc_machine.specs.Machine.{Holder, first_ready, is_idle, deadline_of, wake, tick_by, due_step};
@@ -115,13 +116,13 @@ impl<S: Store> Clients<S> {
     /// One thing is done at a tick: the first ready connection has its request begun, or else the first deadline that has come is met.
     pub(crate) fn tick<O: Effects>(&mut self, inbox: &Inbox, draws: &[u32; 17], out: &mut O)
         requires sound { IsSound (machine_of S.cache self.old) }
-        requires works { works self.old ≡ 221 }
-        requires few { length self.old.queries.queries ≤ 220 }
+        requires works { works self.old ≡ most_works }
+        requires few { length self.old.queries.queries ≤ most_active }
         requires links { self.old.desk.link < 2 ^ 60 }
         requires counts { AreBelow (2 ^ 62) self.old.desk.counts }
         ensures step { Took O.acted S.cache out.old self.old out.new self.new
             (tick_by (first_ready (machine_of S.cache self.old)) (input_of self.old inbox.now draws.now) (machine_of S.cache self.old)) }
-        ensures works { works self.new ≡ 221 }
+        ensures works { works self.new ≡ most_works }
         ensures accepted { self.new.desk.counts.accepted ≤ self.old.desk.counts.accepted + 1 }
     {
         if let Some(i) = self.first_ready() {
@@ -140,12 +141,12 @@ impl<S: Store> Clients<S> {
     fn meet<O: Effects>(&mut self, due: Due, inbox: &Inbox, draws: &[u32; 17], out: &mut O)
         requires stands { (h : Holder) × Stands (machine_of S.cache self.old) due h }
         requires sound { IsSound (machine_of S.cache self.old) }
-        requires works { works self.old ≡ 221 }
+        requires works { works self.old ≡ most_works }
         requires links { self.old.desk.link < 2 ^ 60 }
         requires counts { AreBelow (2 ^ 62) self.old.desk.counts }
         ensures step { (h : Holder) → Stands (machine_of S.cache self.old) due h → Took O.acted S.cache out.old self.old out.new self.new
             (due_step h (input_of self.old inbox.now draws.now) (machine_of S.cache self.old)) }
-        ensures works { works self.new ≡ 221 }
+        ensures works { works self.new ≡ most_works }
         ensures accepted { self.new.desk.counts.accepted ≡ self.old.desk.counts.accepted }
     {
         match due {

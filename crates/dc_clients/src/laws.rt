@@ -1,6 +1,7 @@
 //! Laws that the core's clients stand on.
 
 ghost use Rattle.std.specs.Prelude.{◌≡◌, ◌≤◌, length};
+ghost use Rattle.dc_model.specs.Limits.{most_active};
 ghost use Rattle.dc_model.specs.Rules.{Permits};
 ghost use Rattle.dc_machine.specs.Turn.{Setting, State, Point, turn};
 ghost use Rattle.dc_machine.specs.Machine.{Machine};
@@ -14,5 +15,5 @@ pub fn turns_look_at_no_permissions()
 
 /// There are at most 220 active queries: 200 of clients over UDP, and one for each of twenty connections.
 pub fn queries_are_few()
-    ensures { (m : Machine) → IsSound m → IsRoomy m → length m.queries ≤ 220 }
+    ensures { (m : Machine) → IsSound m → IsRoomy m → length m.queries ≤ most_active }
 {}

@@ -1,6 +1,7 @@
 //! Requests: a query begins, goes on at an event of its link, and makes room for another.
 ghost use Rattle.std.specs.Prelude.{◌≡◌, ℕ, ◌+◌, ◌<◌, ◌≤◌, ◌^◌, ◌==◌, ◌&&◌, not, nat_lt, List, length, Some, slice_get};
 ghost use Rattle.std.specs.List.{remove};
+ghost use Rattle.dc_model.specs.Limits.{most_active, most_works};
 ghost use Rattle.dc_model.specs.Transmission.{after_event};
 ghost use Rattle.dc_packet.specs.Question.{asked};
 ghost use Rattle.dc_machine.specs.Kept.{IsSound};
@@ -13,16 +14,11 @@ ghost use Rattle.dc_clients.specs.View.{machine_of, input_of, rules_of, works, A
 use crate::clients::Clients;
 use dc_active::{Client, Taken};
 use dc_engine::{Effects, Inbox};
+use dc_limits::{LONGEST_REQUEST, MOST_QUERIES};
 use dc_lines::{DropCause, Line, line_query};
 use dc_packet::{Request, read_request};
 use dc_resolve::{event, start};
 use dc_store::Store;
-
-/// How many queries over UDP may be active (after djbdns' dnscache.c, MAXUDP).
-const MOST_UDP: usize = 200;
-
-/// The most bytes of a request over UDP (after djbdns' dnscache.c).
-const MOST_REQUEST: usize = 1023;
 
 /// The first port that isn't a privileged one.
 const FIRST_FREE_PORT: u16 = 1024;
@@ -48,13 +44,13 @@ impl<S: Store> Clients<S> {
         draws: &[u32; 17],
         out: &mut O,
     )
-        requires works { works self.old ≡ 221 }
-        requires few { length self.old.queries.queries ≤ 220 }
+        requires works { works self.old ≡ most_works }
+        requires few { length self.old.queries.queries ≤ most_active }
         requires links { self.old.desk.link < 2 ^ 60 }
         requires counts { AreBelow (2 ^ 63) self.old.desk.counts }
         ensures step { Took O.acted S.cache out.old self.old out.new self.new
             (turned (input_of self.old inbox.now draws.now) at_begin (client_of client) serial (query_for (asked request.now)) (machine_of S.cache self.old)) }
-        ensures works { works self.new ≡ 221 }
+        ensures works { works self.new ≡ most_works }
         ensures accepted { self.new.desk.counts.accepted ≡ self.old.desk.counts.accepted }
     {
         self.count(client);
@@ -88,13 +84,13 @@ impl<S: Store> Clients<S> {
         draws: &[u32; 17],
         out: &mut O,
     )
-        requires works { works self.old ≡ 221 }
-        requires few { length self.old.queries.queries ≤ 220 }
+        requires works { works self.old ≡ most_works }
+        requires few { length self.old.queries.queries ≤ most_active }
         requires links { self.old.desk.link < 2 ^ 60 }
         requires counts { AreBelow (2 ^ 62) self.old.desk.counts }
         ensures step { Took O.acted S.cache out.old self.old out.new self.new
             (begun (input_of self.old inbox.now draws.now) (client_of client) addr port (asked request.now) (machine_of S.cache self.old)) }
-        ensures works { works self.new ≡ 221 }
+        ensures works { works self.new ≡ most_works }
         ensures accepted { self.new.desk.counts.accepted ≡ self.old.desk.counts.accepted + 1 }
     {
         let serial = self.desk.counts.accepted + 1;
@@ -123,13 +119,13 @@ impl<S: Store> Clients<S> {
     )
         requires place { i < length self.old.queries.queries }
         requires sound { IsSound (machine_of S.cache self.old) }
-        requires works { works self.old ≡ 221 }
+        requires works { works self.old ≡ most_works }
         requires links { self.old.desk.link < 2 ^ 60 }
         requires counts { AreBelow (2 ^ 62) self.old.desk.counts }
         ensures step { (a : Active) → slice_get self.old.queries.queries i ≡ Some a → Took O.acted S.cache out.old self.old out.new self.new
             (progressed_by (after_event inbox.now a.attempt (occasion_of (input_of self.old inbox.now draws.now) (machine_of S.cache self.old)))
             (input_of self.old inbox.now draws.now) a (record (machine_of S.cache self.old) { queries = remove self.old.queries.queries i })) }
-        ensures works { works self.new ≡ 221 }
+        ensures works { works self.new ≡ most_works }
         ensures accepted { self.new.desk.counts.accepted ≡ self.old.desk.counts.accepted }
     {
         let mut taken = self.queries.take(i);
@@ -149,12 +145,12 @@ impl<S: Store> Clients<S> {
     /// Gives an event of a link to the query that waits on it.
     pub(crate) fn hear_link<O: Effects>(&mut self, inbox: &Inbox, draws: &[u32; 17], out: &mut O)
         requires sound { IsSound (machine_of S.cache self.old) }
-        requires works { works self.old ≡ 221 }
+        requires works { works self.old ≡ most_works }
         requires links { self.old.desk.link < 2 ^ 60 }
         requires counts { AreBelow (2 ^ 62) self.old.desk.counts }
         ensures step { Took O.acted S.cache out.old self.old out.new self.new
             (link_step (input_of self.old inbox.now draws.now) (machine_of S.cache self.old)) }
-        ensures works { works self.new ≡ 221 }
+        ensures works { works self.new ≡ most_works }
         ensures accepted { self.new.desk.counts.accepted ≡ self.old.desk.counts.accepted }
     {
         if let Some(i) = self.queries.find_link(inbox.event().id) {
@@ -173,16 +169,16 @@ impl<S: Store> Clients<S> {
 
     /// Makes room for one more query over UDP: where 200 are active, the oldest is dropped.
     fn make_room<O: Effects>(&mut self, out: &mut O)
-        requires works { works self.old ≡ 221 }
+        requires works { works self.old ≡ most_works }
         requires counts { AreBelow (2 ^ 61) self.old.desk.counts }
         ensures step { Took O.acted S.cache out.old self.old out.new self.new (with_room (machine_of S.cache self.old)) }
-        ensures works { works self.new ≡ 221 }
+        ensures works { works self.new ≡ most_works }
         ensures fewer { length self.new.queries.queries ≤ length self.old.queries.queries }
         ensures links { self.new.desk.link ≡ self.old.desk.link }
         ensures counts { AreBelow (2 ^ 62) self.new.desk.counts }
         ensures accepted { self.new.desk.counts.accepted ≡ self.old.desk.counts.accepted }
     {
-        if self.queries.udp() < MOST_UDP {
+        if self.queries.udp() < MOST_QUERIES {
             return;
         }
         if let Some(i) = self.queries.first_udp() {
@@ -192,17 +188,17 @@ impl<S: Store> Clients<S> {
 
     /// A datagram of a client came. Where it is a request, and who sent it is served, a query begins.
     pub(crate) fn hear_request<O: Effects>(&mut self, inbox: &Inbox, draws: &[u32; 17], out: &mut O)
-        requires works { works self.old ≡ 221 }
-        requires few { length self.old.queries.queries ≤ 220 }
+        requires works { works self.old ≡ most_works }
+        requires few { length self.old.queries.queries ≤ most_active }
         requires links { self.old.desk.link < 2 ^ 60 }
         requires counts { AreBelow (2 ^ 61) self.old.desk.counts }
         ensures step { Took O.acted S.cache out.old self.old out.new self.new
             (request_step (input_of self.old inbox.now draws.now) (machine_of S.cache self.old)) }
-        ensures works { works self.new ≡ 221 }
+        ensures works { works self.new ≡ most_works }
         ensures accepted { self.new.desk.counts.accepted ≤ self.old.desk.counts.accepted + 1 }
     {
         let bytes = inbox.bytes();
-        if bytes.len() > MOST_REQUEST || self.refuses(inbox) {
+        if bytes.len() > LONGEST_REQUEST || self.refuses(inbox) {
             return;
         }
         let Some(request) = read_request(bytes) else {

@@ -1,6 +1,7 @@
 //! How queries end, and connections with them.
 ghost use Rattle.std.specs.Prelude.{◌≡◌, ◌+◌, ◌<◌, ◌^◌, [], ◌∷◌, length, IsTrue, Some, slice_get};
 ghost use Rattle.std.specs.List.{remove};
+ghost use Rattle.dc_model.specs.Limits.{most_active, most_works};
 ghost use Rattle.dc_model.specs.Event.{line};
 ghost use Rattle.dc_model.specs.Line as words;
 ghost use Rattle.dc_model.specs.Reply as model;
@@ -19,11 +20,9 @@ use crate::clients::Clients;
 use dc_active::{Client, Taken};
 use dc_desk::Outcome;
 use dc_engine::Effects;
+use dc_limits::CLIENT_WAIT;
 use dc_lines::{CloseCause, DropCause, Line, line_drop, line_sent, line_tcpclose};
 use dc_store::Store;
-
-/// How long a client's connection has for its next request, in milliseconds.
-pub(crate) const PATIENCE: u64 = 10_000;
 
 /// How many bytes a message's length takes, which stand before it in a stream.
 const FRAME: usize = 2;
@@ -67,14 +66,14 @@ impl<S: Store> Clients<S> {
     /// Drops the active query at a place: its link is closed first.
     pub(crate) fn drop_active<O: Effects>(&mut self, i: usize, cause: DropCause, out: &mut O)
         requires place { i < length self.old.queries.queries }
-        requires works { works self.old ≡ 221 }
+        requires works { works self.old ≡ most_works }
         requires counts { AreBelow (2 ^ 63) self.old.desk.counts }
         ensures step { (a : Active) → slice_get self.old.queries.queries i ≡ Some a → Took O.acted S.cache out.old self.old out.new self.new
             (did (drop_actions (drop_cause_of cause) a) (record (machine_of S.cache self.old) {
               queries = remove self.old.queries.queries i;
               dropped = self.old.desk.counts.dropped + 1;
             })) }
-        ensures works { works self.new ≡ 221 }
+        ensures works { works self.new ≡ most_works }
         ensures connections { self.new.connections ≡ self.old.connections }
         ensures accepted { self.new.desk.counts.accepted ≡ self.old.desk.counts.accepted }
     {
@@ -94,11 +93,11 @@ impl<S: Store> Clients<S> {
     /// Closes the connection at a place. Its query, where it has one, is dropped first.
     pub(crate) fn close<O: Effects>(&mut self, i: usize, cause: CloseCause, out: &mut O)
         requires place { i < length self.old.connections }
-        requires works { works self.old ≡ 221 }
+        requires works { works self.old ≡ most_works }
         requires counts { AreBelow (2 ^ 63) self.old.desk.counts }
         ensures step { Took O.acted S.cache out.old self.old out.new self.new
             (closed_with (close_cause_of cause) (connection_at self.old.connections i) (machine_of S.cache self.old)) }
-        ensures works { works self.new ≡ 221 }
+        ensures works { works self.new ≡ most_works }
         ensures accepted { self.new.desk.counts.accepted ≡ self.old.desk.counts.accepted }
         ensures fewer { length self.new.connections + 1 ≡ length self.old.connections }
     {
@@ -131,7 +130,7 @@ impl<S: Store> Clients<S> {
                 let bytes = self.desk.reply.finish_tcp();
                 out.conn_reply(number, bytes);
                 line_sent(&mut line, serial, bytes.len().saturating_sub(FRAME));
-                self.connections.renew(number, now + PATIENCE);
+                self.connections.renew(number, now + CLIENT_WAIT);
             }
         }
         out.line(line.text());
@@ -165,12 +164,12 @@ impl<S: Store> Clients<S> {
         out: &mut O,
     )
         requires ended { EndsWell outcome self.old.desk.reply taken.work.value }
-        requires works { works self.old ≡ 220 }
+        requires works { works self.old ≡ most_active }
         requires counts { AreBelow (2 ^ 63) self.old.desk.counts }
         requires moment { now < 2 ^ 62 }
         ensures step { (o : turn.Outcome) → Ends outcome self.old.desk.reply taken.work.value.sender o → Took O.acted S.cache out.old self.old out.new self.new
             (settled o (client_of taken.client) taken.serial now (query_of taken.work.value.query) (machine_of S.cache self.old)) }
-        ensures works { works self.new ≡ 221 }
+        ensures works { works self.new ≡ most_works }
         ensures accepted { self.new.desk.counts.accepted ≡ self.old.desk.counts.accepted }
     {
         match outcome {

@@ -3,10 +3,11 @@ ghost use Rattle.std.specs.Prelude.{◌≡◌, map};
 ghost use Rattle.dc_config.specs.Variables as defined;
 
 use crate::{ConfigError, Env, Variable};
+use dc_limits::MOST_CACHE;
 use dc_text::address;
 
-/// The greatest size of a cache in bytes.
-const MOST_SIZE: u64 = 1000000000;
+/// The most bytes of a cache.
+const MOST_SIZE: u64 = MOST_CACHE as u64;
 
 /// The variable that makes all questions forwarded, when it is set at all.
 const FORWARDONLY: &str = "FORWARDONLY";

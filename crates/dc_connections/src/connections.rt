@@ -1,5 +1,6 @@
 //! The open connections.
 ghost use Rattle.std.specs.Prelude.{◌≡◌, ◌≤◌, ◌<◌, ◌+◌, ◌==◌, ◌++◌, [], ◌∷◌, length, map, find, option_map, vec_capacity, None, IfOk, IfSome, true};
+ghost use Rattle.dc_model.specs.Limits.{longest_gathered, longest_packet};
 ghost use Rattle.dc_model.specs.Transmission.{is_whole};
 ghost use Rattle.dc_machine.specs.Machine.{with_connection, without_connection, renewed, first_message};
 ghost use Rattle.dc_connections.specs.Places.{connection_at, has_number, opened, with_more, with_less, AreApart};
@@ -7,11 +8,9 @@ ghost use Rattle.dc_connections.specs.Entries.{connection_of, connections_of};
 
 use crate::entry::Entry;
 use crate::stream::Stream;
+use dc_limits::MOST_CONNECTIONS;
 use std::alloc::{AllocError, Global};
 use std::marker::Model;
-
-/// How many connections may be open (after djbdns' dnscache.c, MAXTCP).
-const MOST: usize = 20;
 
 /// The open connections, in the order of opening, 20 at most. It takes all memory in `new`.
 #[derive(Drop)]
@@ -51,8 +50,8 @@ fn streams(alloc: Global) -> Result<Vec<Stream>, AllocError>
     ensures len { IfOk result (λ v. length v.items ≡ 20) }
     ensures room { IfOk result (λ v. 20 ≤ vec_capacity v) }
 {
-    let mut streams = Vec::with_capacity(alloc, MOST)?;
-    for _n in 0..MOST {
+    let mut streams = Vec::with_capacity(alloc, MOST_CONNECTIONS)?;
+    for _n in 0..MOST_CONNECTIONS {
         streams.push(Stream::new(alloc)?).unwrap();
     }
     Ok(streams)
@@ -64,7 +63,7 @@ impl Connections {
         ensures { IfOk result (λ cs. cs ≡ []) }
     {
         Ok(Connections {
-            entries: Vec::with_capacity(alloc, MOST)?,
+            entries: Vec::with_capacity(alloc, MOST_CONNECTIONS)?,
             spare: streams(alloc)?,
         })
     }
@@ -131,7 +130,7 @@ impl Connections {
     pub fn gathered_len(&self, i: usize) -> usize
         requires { i < length self.now }
         ensures len { result ≡ length (connection_at self.now i).gathered }
-        ensures most { result ≤ 65537 }
+        ensures most { result ≤ longest_gathered }
     {
         self.entry(i).stream.bytes().len()
     }
@@ -149,7 +148,7 @@ impl Connections {
         requires place { i < length self.now }
         requires whole { is_whole (connection_at self.now i).gathered ≡ true }
         ensures message { result.now ≡ first_message (connection_at self.now i).gathered }
-        ensures most { length result.now ≤ 65535 }
+        ensures most { length result.now ≤ longest_packet }
     {
         self.entry(i).stream.message()
     }
@@ -186,7 +185,7 @@ impl Connections {
     /// Puts bytes behind those that came on the connection at a place.
     pub fn append(&mut self, i: usize, bytes: &[u8])
         requires place { i < length self.old }
-        requires room { length (connection_at self.old i).gathered + length bytes.now ≤ 65537 }
+        requires room { length (connection_at self.old i).gathered + length bytes.now ≤ longest_gathered }
         ensures connections { self.new ≡ with_connection (with_more bytes.now (connection_at self.old i)) self.old }
         ensures at { connection_at self.new i ≡ with_more bytes.now (connection_at self.old i) }
         ensures len { length self.new ≡ length self.old }

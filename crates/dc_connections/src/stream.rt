@@ -1,16 +1,18 @@
 //! The bytes of a stream that came and weren't used.
 ghost use Rattle.std.specs.Prelude.{◌≡◌, ◌≤◌, ◌+◌, ◌++◌, [], length, take, drop, IfOk, true};
+ghost use Rattle.dc_model.specs.Limits.{longest_gathered, longest_packet};
 ghost use Rattle.dc_model.specs.Message as model;
 ghost use Rattle.dc_model.specs.Transmission.{is_whole};
 ghost use Rattle.dc_machine.specs.Machine.{first_message, behind_message};
 
+use dc_limits::LONGEST_GATHERED;
 use dc_packet::u16_at;
 use std::alloc::{AllocError, Global};
 use std::marker::Model;
 
 /// Room for the most bytes twice, a length and the longest message (RFC 1035, 4.2.2): so what is left is moved to the front only
 /// where as many bytes were used since it was moved last.
-const ROOM: usize = 2 * 65537;
+const ROOM: usize = 2 * LONGEST_GATHERED;
 
 /// At most 65537 bytes of a stream, which came and weren't used. They are neither cleared nor moved as a whole: a place and a
 /// length say what counts.
@@ -23,12 +25,13 @@ pub(crate) struct Stream {
 
 impl Model for Stream {
     ghost use Rattle.std.specs.Prelude.{ℕ, List, ◌≡◌, ◌≤◌, ◌+◌, take, drop, length};
+    ghost use Rattle.dc_model.specs.Limits.{longest_gathered};
 
     ghost Value = { List ℕ };
 
     ghost view = { λ a. take a.len (drop a.start a.buffer.items) };
 
-    ghost invariant = { λ a. (length a.buffer.items ≡ 131074) × (a.len ≤ 65537) × (a.start + a.len ≤ 131074) };
+    ghost invariant = { λ a. (length a.buffer.items ≡ 131074) × (a.len ≤ longest_gathered) × (a.start + a.len ≤ 131074) };
 }
 
 /// Writes bytes at a place.
@@ -73,7 +76,7 @@ fn used_by_first(bytes: &[u8]) -> usize
     requires { is_whole bytes.now ≡ true }
     ensures used { result ≡ 2 + model.u16_at bytes.now 0 }
     ensures inside { result ≤ length bytes.now }
-    ensures most { result ≤ 65537 }
+    ensures most { result ≤ longest_gathered }
 {
     u16_at(bytes, 0) as usize + 2
 }
@@ -82,7 +85,7 @@ fn used_by_first(bytes: &[u8]) -> usize
 fn first_of(bytes: &[u8]) -> &[u8]
     requires { is_whole bytes.now ≡ true }
     ensures message { result.now ≡ first_message bytes.now }
-    ensures most { length result.now ≤ 65535 }
+    ensures most { length result.now ≤ longest_packet }
 {
     &bytes[2..used_by_first(bytes)]
 }
@@ -111,14 +114,14 @@ impl Stream {
     /// The bytes.
     pub(crate) fn bytes(&self) -> &[u8]
         ensures bytes { result.now ≡ self.now }
-        ensures most { length result.now ≤ 65537 }
+        ensures most { length result.now ≤ longest_gathered }
     {
         &self.buffer[self.start..self.start + self.len]
     }
 
     /// Puts bytes behind those that are there.
     pub(crate) fn append(&mut self, bytes: &[u8])
-        requires { length self.old + length bytes.now ≤ 65537 }
+        requires { length self.old + length bytes.now ≤ longest_gathered }
         ensures { self.new ≡ self.old ++ bytes.now }
     {
         self.start = make_room(&mut self.buffer, self.start, self.len, bytes.len());
@@ -137,7 +140,7 @@ impl Stream {
     pub(crate) fn message(&self) -> &[u8]
         requires { is_whole self.now ≡ true }
         ensures message { result.now ≡ first_message self.now }
-        ensures most { length result.now ≤ 65535 }
+        ensures most { length result.now ≤ longest_packet }
     {
         first_of(self.bytes())
     }

@@ -1,5 +1,6 @@
 -- The core between two events, as an engine.
 use Rattle.std.specs.Prelude.{◌≡◌, ℕ, ◌+◌, ◌≤◌, false, [], ◌∷◌}
+use Rattle.dc_model.specs.Limits.{most_works}
 use Rattle.dc_model.specs.Event.{line}
 use Rattle.dc_model.specs.Line.{line_starting}
 use Rattle.dc_model.specs.Rules.{Rules}
@@ -28,6 +29,6 @@ core_machine = record {
 pub record IsKept (m : Machine) (count handled : ℕ) : Type 0 where
   pub sound : IsSound m
   pub roomy : IsRoomy m
-  pub works : count ≡ 221
+  pub works : count ≡ most_works
   pub accepted : m.accepted ≤ handled
   pub links : m.links ≤ handled

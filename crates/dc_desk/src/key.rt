@@ -9,12 +9,13 @@ ghost use Rattle.dc_name.specs.Wire.{IsWire, name_of};
 ghost use Rattle.dc_desk.specs.Keys.{name_at, IsAbove};
 
 use arrayvec::ArrayVec;
+use dc_limits::LONGEST_NAME;
 use dc_name::Name;
 use dc_store::{Hit, Store};
 use std::marker::Model;
 
 /// How many bytes a key has at most: those of a type and of a name.
-const MOST_KEY: usize = 257;
+const MOST_KEY: usize = LONGEST_NAME + 2;
 
 /// The keys of a name, and then of the names above it. The name is lowered and laid out once; the key of each name above is
 /// a part of the same bytes.

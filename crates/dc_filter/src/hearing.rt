@@ -1,5 +1,6 @@
 //! What a line of the queue hears.
 ghost use Rattle.std.specs.Prelude.{◌≡◌, ◌+◌, ◌<◌, ◌≤◌, ◌^◌, ◌∷◌, [], length, Some, None, IsSome, false};
+ghost use Rattle.dc_model.specs.Limits.{longest_packet};
 ghost use Rattle.dc_model.specs.Name.{reverse_name};
 ghost use Rattle.dc_model.specs.Message.{message_of};
 ghost use Rattle.dc_model.specs.Places.{all_empty};
@@ -17,13 +18,11 @@ use dc_name::Name;
 use dc_packet::Table;
 use dc_show::host_of;
 use dc_transmit::Progress;
-
-/// The type of names of addresses.
-const KIND_PTR: u16 = 12;
+use dc_types::rtype;
 
 /// The host that a packet answers, by way of a table. `None` also where the packet is no message.
 fn host_in(packet: &[u8], table: &mut Table) -> Option<Name>
-    requires { length packet.now ≤ 65535 }
+    requires { length packet.now ≤ longest_packet }
     ensures { result ≡ host_answered (message_of packet.now) }
 {
     match table.read(packet) {
@@ -56,7 +55,7 @@ impl Slot {
         let name = Name::reverse_of(addr);
         let now = inbox.event().now;
         self.sender
-            .start(&places, &name, KIND_PTR, true, draws, now, link, out);
+            .start(&places, &name, rtype::PTR, true, draws, now, link, out);
         self.stage = Stage::Asked;
     }
 

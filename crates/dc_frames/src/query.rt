@@ -11,9 +11,8 @@ use crate::place::{none_placed, place};
 use arrayvec::ArrayVec;
 use dc_name::Name;
 use dc_packet::Request;
+use dc_types::rtype;
 use std::alloc::Global;
-
-const KIND_A: u16 = 1;
 
 /// A query: a request, the frames with the lowest first, where each looks for the address of a server of the frame below it,
 /// the aliases of the lowest frame with the oldest first, and the number of its turns.
@@ -200,7 +199,7 @@ impl Query {
         if self.is_lowest() {
             self.request.qtype
         } else {
-            KIND_A
+            rtype::A
         }
     }
 

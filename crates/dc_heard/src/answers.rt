@@ -17,11 +17,7 @@ use dc_frames::Query;
 use dc_name::Name;
 use dc_packet::{Data, Message};
 use dc_reply::Reply;
-
-/// The class of the internet.
-const CLASS_IN: u16 = 1;
-
-const KIND_A: u16 = 1;
+use dc_types::{class, rtype};
 
 /// The answer of a message is told to the client at level 0. Above, its addresses are for the frame below.
 #[tactic(auto, unfolding(dc_machine::specs::Turn::answers_row))]
@@ -82,9 +78,9 @@ fn is_address(message: &Message<'_>, i: usize, name: &Name) -> bool
     ensures { result ≡ gives_address name.now (record_in message.now i) }
 {
     let rr = row(message, i);
-    rr.class == CLASS_IN
+    rr.class == class::IN
         && (is_answer(rr.section) && owner(message, i).same(name))
-        && (rr.kind == KIND_A && rr.len == 4)
+        && (rr.kind == rtype::A && rr.len == 4)
 }
 
 /// Data of four bytes.

@@ -1,5 +1,6 @@
 //! A message is followed by what it says.
 ghost use Rattle.std.specs.Prelude.{◌≡◌, ◌<◌, ◌≤◌, ◌^◌, length};
+ghost use Rattle.dc_model.specs.Limits.{longest_packet};
 ghost use Rattle.dc_model.specs.Marks as marks;
 ghost use Rattle.dc_model.specs.Marks.{Marks};
 ghost use Rattle.dc_model.specs.Transmission.{Accepted};
@@ -40,7 +41,7 @@ pub(crate) fn follow<S: Store, O: Effects>(
     out: &mut O,
 ) -> Step
     requires some { 0 < length (query_of query.old).frames }
-    requires packet { length answer.packet.now ≤ 65535 }
+    requires packet { length answer.packet.now ≤ longest_packet }
     requires rows { AreRowsOf answer.packet.now desk.old.table }
     requires within { IsWithin (message_in answer.packet.now) says }
     requires soa { HasSoa (message_in answer.packet.now) found.now }
@@ -66,7 +67,7 @@ fn lame<S: Store, O: Effects>(
     out: &mut O,
 ) -> Step
     requires some { 0 < length (query_of query.old).frames }
-    requires packet { length answer.packet.now ≤ 65535 }
+    requires packet { length answer.packet.now ≤ longest_packet }
     requires rows { AreRowsOf answer.packet.now desk.now.table }
     requires within { i < length (message_in answer.packet.now).records }
     requires place { answer.place < 16 }
@@ -97,7 +98,7 @@ fn missing<S: Store, O: Effects>(
     out: &mut O,
 ) -> Step
     requires some { 0 < length (query_of query.now).frames }
-    requires packet { length answer.packet.now ≤ 65535 }
+    requires packet { length answer.packet.now ≤ longest_packet }
     requires rows { AreRowsOf answer.packet.now desk.old.table }
     requires soa { HasSoa (message_in answer.packet.now) found.now }
     requires moment { moment.time < 2 ^ 62 }
@@ -120,7 +121,7 @@ fn answered<S: Store, O: Effects>(
     out: &mut O,
 ) -> Step
     requires some { 0 < length (query_of query.old).frames }
-    requires packet { length answer.packet.now ≤ 65535 }
+    requires packet { length answer.packet.now ≤ longest_packet }
     requires rows { AreRowsOf answer.packet.now desk.old.table }
     requires soa { HasSoa (message_in answer.packet.now) found.now }
     requires moment { moment.time < 2 ^ 62 }
@@ -142,7 +143,7 @@ fn referred<S: Store, O: Effects>(
     out: &mut O,
 ) -> Step
     requires some { 0 < length (query_of query.old).frames }
-    requires packet { length answer.packet.now ≤ 65535 }
+    requires packet { length answer.packet.now ≤ longest_packet }
     requires rows { AreRowsOf answer.packet.now desk.old.table }
     requires within { i < length (message_in answer.packet.now).records }
     requires soa { HasSoa (message_in answer.packet.now) found.now }

@@ -1,5 +1,6 @@
 //! The packet, by its class.
 ghost use Rattle.std.specs.Prelude.{◌≡◌, ◌<◌, ◌≤◌, ◌^◌, length, map};
+ghost use Rattle.dc_model.specs.Limits.{longest_packet};
 ghost use Rattle.dc_model.specs.Event.{second, line};
 ghost use Rattle.dc_model.specs.Message.{message_of};
 ghost use Rattle.dc_model.specs.Puts.{all_put, given_of, lines_given, puts_given};
@@ -42,7 +43,7 @@ pub fn hear<S: Store, O: Effects>(
 ) -> Step
     requires some { 0 < length (query_of query.old).frames }
     requires turns { (query_of query.old).turns < 100 }
-    requires packet { length answer.packet.now ≤ 65535 }
+    requires packet { length answer.packet.now ≤ longest_packet }
     requires place { answer.place < 16 }
     requires moment { moment.time < 2 ^ 62 }
     ensures { TookRow O.acted S.cache (heard_row (accepted_of answer.entry)) moment.entry out.old query.old desk.old out.new query.new desk.new result }
@@ -63,7 +64,7 @@ fn read<S: Store, O: Effects>(
     out: &mut O,
 ) -> Step
     requires some { 0 < length (query_of query.old).frames }
-    requires packet { length answer.packet.now ≤ 65535 }
+    requires packet { length answer.packet.now ≤ longest_packet }
     requires place { answer.place < 16 }
     requires moment { moment.time < 2 ^ 62 }
     ensures { TookRow O.acted S.cache (message_row (message_of answer.entry.packet.now) (accepted_of answer.entry)) moment.entry out.old query.old desk.old out.new query.new desk.new result }
@@ -83,7 +84,7 @@ fn take<S: Store, O: Effects>(
     out: &mut O,
 ) -> Step
     requires some { 0 < length (query_of query.old).frames }
-    requires packet { length answer.packet.now ≤ 65535 }
+    requires packet { length answer.packet.now ≤ longest_packet }
     requires rows { AreRowsOf answer.packet.now desk.old.table }
     requires place { answer.place < 16 }
     requires moment { moment.time < 2 ^ 62 }
@@ -105,7 +106,7 @@ fn keep<S: Store, O: Effects>(
     out: &mut O,
 )
     requires some { 0 < length (query_of query.now).frames }
-    requires packet { length answer.packet.now ≤ 65535 }
+    requires packet { length answer.packet.now ≤ longest_packet }
     requires rows { AreRowsOf answer.packet.now desk.old.table }
     requires moment { moment.time < 2 ^ 62 }
     ensures store { S.cache desk.new.store ≡ all_put (puts_given (kept_of (class_said (message_in answer.entry.packet.now) says) (given_of desk.old.zones (top_of (query_of query.now)).control answer.entry.server (message_in answer.entry.packet.now)))) (second moment.entry.time) (S.cache desk.old.store) }

@@ -17,15 +17,12 @@ use crate::record::{data, row};
 use dc_desk::Key;
 use dc_engine::Effects;
 use dc_frames::Query;
+use dc_limits::LONGEST_NEGATIVE;
 use dc_lines::{Line, line_nodata, line_nxdomain};
 use dc_packet::{Data, Message, kept_ttl, u32_at};
 use dc_rules::Rule;
 use dc_store::Store;
-
-const KIND_ANY: u16 = 255;
-
-/// For how many seconds it is known at most that something isn't there.
-const MOST_NEGATIVE: u32 = 3600;
+use dc_types::rtype;
 
 /// Where in the numbers of an SOA its MINIMUM stands (RFC 1035, 3.3.13).
 const MINIMUM: usize = 16;
@@ -50,8 +47,8 @@ fn ttl_by(message: &Message<'_>, rule: Rule, i: usize) -> u32
 {
     let ttl = kept_ttl(row(message, i).ttl);
     match rule {
-        Rule::One => ttl.min(MOST_NEGATIVE),
-        Rule::Two => ttl.min(minimum_of(&data(message, i))).min(MOST_NEGATIVE),
+        Rule::One => ttl.min(LONGEST_NEGATIVE),
+        Rule::Two => ttl.min(minimum_of(&data(message, i))).min(LONGEST_NEGATIVE),
     }
 }
 
@@ -84,7 +81,7 @@ pub(crate) fn no_name<S: Store, O: Effects>(
     let mut line = Line::new();
     line_nxdomain(&mut line, server, ttl, query.name());
     out.line(line.text());
-    Key::new(query.name()).put_empty(store, KIND_ANY, ttl, second);
+    Key::new(query.name()).put_empty(store, rtype::ANY, ttl, second);
 }
 
 /// Remembers for so many seconds that the name on top has no records of the wanted type, and says so.

@@ -1,5 +1,6 @@
 //! The records of a packet's message, by their numbers.
 ghost use Rattle.std.specs.Prelude.{◌≡◌, ◌<◌, ◌≤◌, length};
+ghost use Rattle.dc_model.specs.Limits.{longest_packet};
 ghost use Rattle.dc_model.specs.Marks as marks;
 ghost use Rattle.dc_packet.specs.Data.{body_of};
 ghost use Rattle.dc_packet.specs.Rows.{AreRowsOf, message_in, named_section, row_of};
@@ -10,7 +11,7 @@ use dc_packet::{Data, Message, Rr, Section, Table};
 
 /// The message that a packet is, by the table that was read from it.
 pub(crate) fn said<'a>(packet: &'a [u8], table: &'a Table) -> Message<'a>
-    requires packet { length packet.now ≤ 65535 }
+    requires packet { length packet.now ≤ longest_packet }
     requires table { AreRowsOf packet.now table.now }
     ensures { result ≡ message_in packet.now }
 {

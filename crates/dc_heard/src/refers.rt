@@ -13,19 +13,13 @@ ghost use Rattle.dc_heard.specs.Taken.{listed, hosts_in, gives_host};
 use crate::record::{data, host_of, is_authority, owner, row};
 use dc_desk::{Cause, Outcome, Point, Step};
 use dc_frames::Query;
+use dc_limits::MOST_HOSTS;
 use dc_name::Name;
 use dc_packet::Message;
-
-/// The class of the internet.
-const CLASS_IN: u16 = 1;
-
-const KIND_NS: u16 = 2;
+use dc_types::{class, rtype};
 
 /// No server.
 const NOBODY: [[u8; 4]; 16] = [[0; 4]; 16];
-
-/// How many servers of a zone are looked for at most.
-const MOST_HOSTS: usize = 16;
 
 /// The servers of a zone are to be asked. A zone that the name on top isn't under is no help, and the query is given up.
 #[tactic(auto, unfolding(dc_machine::specs::Turn::refers_row))]
@@ -90,6 +84,6 @@ fn is_host(message: &Message<'_>, i: usize, zone: &Name) -> bool
     ensures { result ≡ gives_host zone.now (record_in message.now i) }
 {
     let rr = row(message, i);
-    rr.class == CLASS_IN
-        && (is_authority(rr.section) && (rr.kind == KIND_NS && owner(message, i).same(zone)))
+    rr.class == class::IN
+        && (is_authority(rr.section) && (rr.kind == rtype::NS && owner(message, i).same(zone)))
 }

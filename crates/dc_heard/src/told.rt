@@ -1,5 +1,6 @@
 //! What is remembered and told before an answer or a referral is followed.
 ghost use Rattle.std.specs.Prelude.{◌≡◌, ◌<◌, ◌≤◌, ◌^◌, ◌++◌, ◌∷◌, [], length};
+ghost use Rattle.dc_model.specs.Limits.{longest_packet};
 ghost use Rattle.dc_model.specs.Event.{second};
 ghost use Rattle.dc_model.specs.Puts.{all_put};
 ghost use Rattle.dc_packet.specs.Rows.{AreRowsOf, message_in};
@@ -18,12 +19,7 @@ use dc_engine::Effects;
 use dc_frames::{Found, Query};
 use dc_lines::{Line, line_stats};
 use dc_store::Store;
-
-const KIND_CNAME: u16 = 5;
-
-const KIND_AXFR: u16 = 252;
-
-const KIND_ANY: u16 = 255;
+use dc_types::rtype;
 
 /// Whether the name on top is there, but has no records of the wanted type.
 #[tactic(auto, using(crate::proofs::Telling::some_is))]
@@ -33,7 +29,7 @@ fn has_no_data(query: &Query, found: &Found) -> bool
     let wanted = query.wanted();
     !found.out
         && (found.soa.is_some()
-            && !(wanted == KIND_ANY || wanted == KIND_AXFR || wanted == KIND_CNAME))
+            && !(wanted == rtype::ANY || wanted == rtype::AXFR || wanted == rtype::CNAME))
 }
 
 /// Remembers missing data, where a message tells of it.
@@ -46,7 +42,7 @@ fn remember<S: Store, O: Effects>(
     out: &mut O,
 )
     requires some { 0 < length (query_of query.now).frames }
-    requires packet { length answer.packet.now ≤ 65535 }
+    requires packet { length answer.packet.now ≤ longest_packet }
     requires rows { AreRowsOf answer.packet.now desk.old.table }
     requires soa { HasSoa (message_in answer.packet.now) found.now }
     requires moment { moment.time < 2 ^ 62 }
@@ -82,7 +78,7 @@ pub(crate) fn tell<S: Store, O: Effects>(
     out: &mut O,
 )
     requires some { 0 < length (query_of query.now).frames }
-    requires packet { length answer.packet.now ≤ 65535 }
+    requires packet { length answer.packet.now ≤ longest_packet }
     requires rows { AreRowsOf answer.packet.now desk.old.table }
     requires soa { HasSoa (message_in answer.packet.now) found.now }
     requires moment { moment.time < 2 ^ 62 }

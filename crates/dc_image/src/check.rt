@@ -1,5 +1,6 @@
 //! Whether a block is the layout of a cache.
 ghost use Rattle.std.specs.Prelude.{◌≡◌, ◌↔◌, ℕ, ◌≤◌, length, IfOk, IsTrue};
+ghost use Rattle.dc_model.specs.Limits.{most_cache};
 ghost use Rattle.dc_model.specs.Cache.{hsize};
 ghost use Rattle.dc_image.specs.Gathered.{HasLayout, InOrder};
 ghost use Rattle.dc_image.specs.Loaded.{marked};
@@ -12,7 +13,7 @@ use std::alloc::Global;
 /// Whether marks lie in order in a block of `size` bytes, of which the heads take `heads`.
 fn are_in_order(size: u32, heads: u32, marks: Marks) -> bool
     requires least { 100 ≤ size }
-    requires most { size ≤ 1000000000 }
+    requires most { size ≤ most_cache }
     requires heads { heads ≡ hsize size }
     ensures { IsTrue result ↔ InOrder size (marked marks) }
 {
@@ -27,7 +28,7 @@ fn are_in_order(size: u32, heads: u32, marks: Marks) -> bool
 /// of memory a head.
 pub fn check_layout(alloc: Global, bytes: &[u8], marks: Marks) -> Result<bool, NoMemory>
     requires least { 100 ≤ length bytes.now }
-    requires most { length bytes.now ≤ 1000000000 }
+    requires most { length bytes.now ≤ most_cache }
     ensures { IfOk result (λ is. IsTrue is ↔ HasLayout bytes.now (marked marks)) }
 {
     let size = bytes.len() as u32;

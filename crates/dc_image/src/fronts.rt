@@ -1,5 +1,6 @@
 //! Going over the entries of a block, from the oldest to the newest, with two numbers a bucket.
 ghost use Rattle.std.specs.Prelude.{◌≡◌, ◌↔◌, ℕ, ◌+◌, ◌*◌, ◌<◌, ◌≤◌, ◌^◌, List, [], length, IfOk, IsTrue};
+ghost use Rattle.dc_model.specs.Limits.{most_cache};
 ghost use Rattle.dc_model.specs.Cache.{hsize};
 ghost use Rattle.dc_model.specs.Block.{get4, part};
 ghost use Rattle.dc_model.specs.Layout.{Place, IsHead};
@@ -7,13 +8,8 @@ ghost use Rattle.dc_image.specs.Fronts.{AreNoted, AreNewest, Ends, Fits, Notes, 
 
 use dc_bucket::bucket_of;
 use dc_chain::NoMemory;
+use dc_limits::{LONGEST_BODY, LONGEST_KEY};
 use std::alloc::Global;
-
-/// The longest key of an entry, in bytes.
-const MOST_KEY: u32 = 1000;
-
-/// The longest body of an entry, in bytes.
-const MOST_BODY: u32 = 1000000;
 
 /// How many bytes stand before an entry's key: its link, two lengths and the expiry.
 const ENTRY_HEAD: u32 = 20;
@@ -32,7 +28,7 @@ fn number_at(block: &[u8], at: u32) -> u32
 
 /// The place behind the entry at a place, where that is within the limits and ends at `up` at the latest.
 fn end_of(block: &[u8], at: u32, up: u32) -> Option<u32>
-    requires most { length block.now ≤ 1000000000 }
+    requires most { length block.now ≤ most_cache }
     requires within { up ≤ length block.now }
     requires before { at < up }
     ensures { Ends block.now at up result }
@@ -42,7 +38,7 @@ fn end_of(block: &[u8], at: u32, up: u32) -> Option<u32>
     }
     let key = number_at(block, at + 4);
     let body = number_at(block, at + 8);
-    if key > MOST_KEY || body > MOST_BODY {
+    if key > LONGEST_KEY as u32 || body > LONGEST_BODY as u32 {
         return None;
     }
     let end = at + ENTRY_HEAD + key + body;
@@ -88,7 +84,7 @@ impl Fronts {
     /// Goes over the entry at a place. The result is the place behind it; nothing where a layout has no such entry, or no such link of the
     /// entry that was the newest of its bucket.
     fn note(&mut self, block: &[u8], at: u32, up: u32) -> Option<u32>
-        requires most { length block.now ≤ 1000000000 }
+        requires most { length block.now ≤ most_cache }
         requires within { up ≤ length block.now }
         requires before { at < up }
         requires behind { hsize (length block.now) ≤ at }
@@ -115,7 +111,7 @@ impl Fronts {
     /// Goes over the entries that lie end to end from a place up to another one, the oldest first. False where a layout has no such entries,
     /// or no such links.
     pub fn pass(&mut self, block: &[u8], from: u32, up: u32) -> bool
-        requires most { length block.now ≤ 1000000000 }
+        requires most { length block.now ≤ most_cache }
         requires within { up ≤ length block.now }
         requires order { from ≤ up }
         requires behind { hsize (length block.now) ≤ from }
@@ -135,7 +131,7 @@ impl Fronts {
     /// Whether each head links to the newest entry of its bucket, and that entry to the head.
     pub fn are_headed(&self, block: &[u8]) -> bool
         requires least { 100 ≤ length block.now }
-        requires most { length block.now ≤ 1000000000 }
+        requires most { length block.now ≤ most_cache }
         requires noted { (ps : List Place) × AreNoted block.now ps self.now }
         ensures { (ps : List Place) → AreNoted block.now ps self.now → IsTrue result ↔ AreNewest block.now ps }
     {

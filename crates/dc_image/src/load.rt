@@ -1,5 +1,6 @@
 //! Loading a cache from an image.
 ghost use Rattle.std.specs.Prelude.{◌≡◌, ℕ, ◌+◌, ◌≤◌, List, length};
+ghost use Rattle.dc_model.specs.Limits.{most_cache};
 ghost use Rattle.dc_event.specs.Answers.{well_taken};
 ghost use Rattle.dc_event.specs.Causes.{Fares};
 ghost use Rattle.dc_image.specs.Image.{word_at};
@@ -117,7 +118,7 @@ impl Parts {
     /// The store that they are, where they are the layout of a cache.
     fn adopt(self, alloc: Global) -> Result<ArenaStore, ImageError>
         requires least { 100 ≤ length self.block.items }
-        requires most { length self.block.items ≤ 1000000000 }
+        requires most { length self.block.items ≤ most_cache }
         ensures { Adopts self.block.items (marked self.marks) result }
     {
         match check_layout(alloc, &self.block, self.marks) {
@@ -150,7 +151,7 @@ pub fn load_image<I: Source>(
     source: &mut I,
 ) -> Result<ArenaStore, ImageError>
     requires least { 100 ≤ size }
-    requires most { size ≤ 1000000000 }
+    requires most { size ≤ most_cache }
     ensures loads { (bytes : List ℕ) × I.took source.old bytes source.new × (length bytes ≤ 24 + size + 1) × Loads size bytes (I.left source.new) result }
     ensures fares { Fares I.took I.refused I.faults (well_loaded result) source.old source.new }
 {

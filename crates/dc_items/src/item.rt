@@ -8,6 +8,7 @@ ghost use Rattle.dc_rules.specs.Refusals.{rule_of};
 use crate::plain::plain_name;
 use dc_packet::{Data, u16_at};
 use dc_rules::Rule;
+use dc_types::rtype;
 
 /// An item, and the place behind it.
 #[derive(Drop)]
@@ -15,16 +16,6 @@ pub(crate) struct Item<'a> {
     pub(crate) data: Data<'a>,
     pub(crate) after: usize,
 }
-
-const KIND_A: u16 = 1;
-
-const KIND_NS: u16 = 2;
-
-const KIND_SOA: u16 = 6;
-
-const KIND_PTR: u16 = 12;
-
-const KIND_MX: u16 = 15;
 
 /// The number of bytes that an address takes.
 const ADDRESS: usize = 4;
@@ -38,13 +29,13 @@ pub(crate) fn item_at<'a>(rule: Rule, kind: u16, body: &'a [u8], at: usize) -> O
     requires { at ≤ length body.now }
     ensures { option_map item_read result ≡ model.item_at (rule_of rule) kind body.now at }
 {
-    if kind == KIND_NS || kind == KIND_PTR {
+    if kind == rtype::NS || kind == rtype::PTR {
         host_at(body, at)
-    } else if kind == KIND_MX {
+    } else if kind == rtype::MX {
         mx_at(body, at)
-    } else if kind == KIND_A {
+    } else if kind == rtype::A {
         bytes_at(body, at, ADDRESS)
-    } else if kind == KIND_SOA && rule == Rule::Two {
+    } else if kind == rtype::SOA && rule == Rule::Two {
         soa_at(body, at)
     } else {
         framed_at(body, at)

@@ -5,6 +5,7 @@ ghost use Rattle.dc_model.specs.Bodies.{plain_name_at};
 ghost use Rattle.dc_items.specs.Labels.{label_of};
 ghost use Rattle.dc_items.specs.Read.{plain_read};
 
+use dc_limits::LONGEST_LABEL;
 use dc_name::Name;
 
 /// A name, and the place behind it.
@@ -13,9 +14,6 @@ pub(crate) struct PlainName {
     pub(crate) name: Name,
     pub(crate) after: usize,
 }
-
-/// The greatest length of a label.
-const MOST_LABEL: u8 = 63;
 
 /// The label at a place, the empty one where a name ends. `None` where its length is over 63, as a pointer's first byte is, or
 /// where it passes the body's end.
@@ -29,7 +27,7 @@ fn label_at(body: &[u8], at: usize) -> Option<&[u8]>
     let first = body[at];
     let start = at + 1;
     let len = first as usize;
-    if first > MOST_LABEL || len > body.len() - start {
+    if first > LONGEST_LABEL || len > body.len() - start {
         return None;
     }
     Some(&body[start..start + len])

@@ -14,19 +14,14 @@ use dc_answer::{reply_nothing, reply_one};
 use dc_desk::{Desk, Point, Step};
 use dc_engine::Effects;
 use dc_frames::Query;
+use dc_limits::LASTING;
 use dc_name::Name;
 use dc_reply::{Body, Reply};
 use dc_store::Store;
-
-const KIND_A: u16 = 1;
-
-const KIND_PTR: u16 = 12;
+use dc_types::rtype;
 
 /// The address of this host.
 const LOOPBACK: [u8; 4] = [127, 0, 0, 1];
-
-/// For how many seconds others may keep what is built in.
-const LASTING: u32 = 655360;
 
 /// The name of this host.
 fn localhost() -> Name
@@ -62,8 +57,8 @@ fn reply_address(query: &Query, reply: &mut Reply, address: [u8; 4]) -> bool
     ensures { Replies result reply.new (machine.reply_of (query_of query.now)
         (machine.if_wanted (query_of query.now) model.kind_a (machine.answer_of (query_of query.now) model.kind_a 655360 (model.bytes address) ∷ []))) }
 {
-    if is_wanted(query.wanted(), KIND_A) {
-        reply_one(query, reply, KIND_A, LASTING, Body::Bytes(&address))
+    if is_wanted(query.wanted(), rtype::A) {
+        reply_one(query, reply, rtype::A, LASTING, Body::Bytes(&address))
     } else {
         reply_nothing(query, reply)
     }
@@ -75,8 +70,8 @@ fn reply_host(query: &Query, reply: &mut Reply) -> bool
     ensures { Replies result reply.new (machine.reply_of (query_of query.now)
         (machine.if_wanted (query_of query.now) model.kind_ptr (machine.answer_of (query_of query.now) model.kind_ptr 655360 (model.host machine.localhost) ∷ []))) }
 {
-    if is_wanted(query.wanted(), KIND_PTR) {
-        reply_one(query, reply, KIND_PTR, LASTING, Body::Host(&localhost()))
+    if is_wanted(query.wanted(), rtype::PTR) {
+        reply_one(query, reply, rtype::PTR, LASTING, Body::Host(&localhost()))
     } else {
         reply_nothing(query, reply)
     }

@@ -20,10 +20,7 @@ use dc_items::target;
 use dc_lines::{Line, line_cached, line_cached_cname, line_cached_nxdomain};
 use dc_reply::Body;
 use dc_store::Store;
-
-const KIND_CNAME: u16 = 5;
-
-const KIND_ANY: u16 = 255;
+use dc_types::rtype;
 
 /// A cached entry of type ANY says that the name doesn't exist.
 pub(crate) fn missing<S: Store, O: Effects>(
@@ -37,7 +34,7 @@ pub(crate) fn missing<S: Store, O: Effects>(
     requires key { key.old ≡ model.lower (name_of (query_of query.old)) }
     ensures { TookRow O.acted S.cache machine.missing_row moment.entry out.old query.old desk.old out.new query.new desk.new result }
 {
-    let Some(_) = key.find(&desk.store, KIND_ANY, moment.second()) else {
+    let Some(_) = key.find(&desk.store, rtype::ANY, moment.second()) else {
         return renamed(query, desk, key, moment, out);
     };
     let mut line = Line::new();
@@ -51,7 +48,7 @@ fn cached_alias<S: Store>(store: &S, key: &mut Key, now: u64) -> Option<Renamed>
     ensures alias { (n : model.Name) → key.old ≡ model.lower n → option_map alias_of result ≡ machine.target_by (get (key_of kind_cname n) now (S.cache store.now)) }
     ensures same { key.new ≡ key.old }
 {
-    let hit = key.find(store, KIND_CNAME, now)?;
+    let hit = key.find(store, rtype::CNAME, now)?;
     let name = target(hit.body)?;
     Some(Renamed { name, ttl: hit.ttl })
 }
@@ -85,11 +82,11 @@ fn follow<S: Store, O: Effects>(
     ensures { (m : Moment) → TookRow O.acted S.cache (machine.cname_by (Some (alias_of alias))) m out.old query.old desk.old out.new query.new desk.new result }
 {
     let mut line = Line::new();
-    if is_wanted(query.wanted(), KIND_CNAME) {
-        line_cached(&mut line, KIND_CNAME, query.name());
+    if is_wanted(query.wanted(), rtype::CNAME) {
+        line_cached(&mut line, rtype::CNAME, query.name());
         out.line(line.text());
         let body = Body::Host(&alias.name);
-        return Step::replied(reply_one(query, &mut desk.reply, KIND_CNAME, alias.ttl, body));
+        return Step::replied(reply_one(query, &mut desk.reply, rtype::CNAME, alias.ttl, body));
     }
     line_cached_cname(&mut line, query.name(), &alias.name);
     out.line(line.text());

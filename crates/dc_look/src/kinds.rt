@@ -22,14 +22,11 @@ use dc_items::{Addresses, Items};
 use dc_lines::{Line, line_cached};
 use dc_rules::Rule;
 use dc_store::{Hit, Store};
+use dc_types::rtype;
 
-const KIND_A: u16 = 1;
+const KINDS_OF_ONE: [u16; 4] = [rtype::NS, rtype::PTR, rtype::MX, rtype::A];
 
-const KIND_ANY: u16 = 255;
-
-const KINDS_OF_ONE: [u16; 4] = [2, 12, 15, 1];
-
-const KINDS_OF_TWO: [u16; 5] = [2, 12, 15, 1, 6];
+const KINDS_OF_TWO: [u16; 5] = [rtype::NS, rtype::PTR, rtype::MX, rtype::A, rtype::SOA];
 
 /// A cached entry and its type.
 #[derive(Drop)]
@@ -58,7 +55,7 @@ fn known_at<'a, S: Store>(
         return None;
     }
     let hit = key.find(store, kind, now)?;
-    if hit.body.is_empty() && query.wanted() == KIND_ANY {
+    if hit.body.is_empty() && query.wanted() == rtype::ANY {
         return None;
     }
     Some(Entry { kind, hit })
@@ -154,11 +151,11 @@ fn give_known<S: Store, O: Effects>(
     requires key { key.old ≡ lower (name_of (query_of query.old)) }
     ensures { TookRow O.acted S.cache machine.known_row moment.entry out.old query.old desk.old out.new query.new desk.new result }
 {
-    let Some(hit) = key.find(&desk.store, KIND_A, moment.second()) else {
+    let Some(hit) = key.find(&desk.store, rtype::A, moment.second()) else {
         return zone(query, desk, key, moment, out);
     };
     let mut line = Line::new();
-    line_cached(&mut line, KIND_A, query.name());
+    line_cached(&mut line, rtype::A, query.name());
     out.line(line.text());
     let addresses = Addresses::new(hit.body);
     add_addresses(query, addresses);

@@ -13,8 +13,7 @@ use dc_frames::Query;
 use dc_items::Items;
 use dc_name::{Name, Suffix};
 use dc_store::Store;
-
-const KIND_NS: u16 = 2;
+use dc_types::rtype;
 
 /// What is known of the servers of a zone.
 #[derive(Drop)]
@@ -71,11 +70,11 @@ fn servers_of<'a, S: Store>(
     if !uses_cached(query, desk, zone, moment) {
         return None;
     }
-    let hit = key.find(&desk.store, KIND_NS, moment.second())?;
+    let hit = key.find(&desk.store, rtype::NS, moment.second())?;
     if hit.body.is_empty() {
         return None;
     }
-    let hosts = Items::new(desk.zones.rule(), KIND_NS, hit.body);
+    let hosts = Items::new(desk.zones.rule(), rtype::NS, hit.body);
     Some(Servers::Cached(hosts))
 }
 

@@ -7,19 +7,24 @@ ghost use Rattle.dc_rules.specs.Refusals.{rule_of};
 ghost use Rattle.dc_machine.specs.Turn as machine;
 
 use dc_rules::Rule;
+use dc_types::rtype;
 
-const KIND_SOA: u16 = 6;
-
-const KIND_ANY: u16 = 255;
-
-/// The types for which there are rules of their own: ANY, AXFR, CNAME, NS, PTR, A and MX.
-const RULED: [u16; 7] = [255, 252, 5, 2, 12, 1, 15];
+/// The types for which there are rules of their own.
+const RULED: [u16; 7] = [
+    rtype::ANY,
+    rtype::AXFR,
+    rtype::CNAME,
+    rtype::NS,
+    rtype::PTR,
+    rtype::A,
+    rtype::MX,
+];
 
 /// Whether a type is wanted: it is the one asked for, or ANY is asked for.
 pub(crate) fn is_wanted(wanted: u16, kind: u16) -> bool
     ensures { result ≡ marks.is_wanted wanted kind }
 {
-    kind == wanted || wanted == KIND_ANY
+    kind == wanted || wanted == rtype::ANY
 }
 
 /// Whether there is a rule for a type, under both rules of a configuration.
@@ -39,6 +44,6 @@ pub(crate) fn is_other(rule: Rule, kind: u16) -> bool
     }
     match rule {
         Rule::One => true,
-        Rule::Two => kind != KIND_SOA,
+        Rule::Two => kind != rtype::SOA,
     }
 }

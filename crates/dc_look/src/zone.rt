@@ -14,6 +14,7 @@ use dc_desk::{Desk, Key, Moment, Point, Step};
 use dc_engine::Effects;
 use dc_frames::Query;
 use dc_items::Items;
+use dc_limits::MOST_HOSTS;
 use dc_lines::{Line, line_cached_ns};
 use dc_name::Name;
 use dc_packet::Data;
@@ -21,9 +22,6 @@ use dc_store::Store;
 
 /// No server.
 const NOBODY: [[u8; 4]; 16] = [[0; 4]; 16];
-
-/// How many servers of a zone are looked for at most.
-const MOST_HOSTS: usize = 16;
 
 /// A zone is chosen, from the name upwards: a configured one has its servers as they stand, any other those that the cache knows
 /// (after djbdns' roots.c).

@@ -1,5 +1,6 @@
 //! The class of a message.
 ghost use Rattle.std.specs.Prelude.{◌≡◌, ◌≤◌, ◌&&◌, length};
+ghost use Rattle.dc_model.specs.Limits.{longest_packet};
 ghost use Rattle.dc_model.specs.Message as model;
 ghost use Rattle.dc_model.specs.Marks as marks;
 ghost use Rattle.dc_model.specs.Marks.{Marks};
@@ -91,7 +92,7 @@ pub fn class_of(message: &Message<'_>, found: &Found, control: &Name) -> Class
 
 /// The class of a packet's message for a name and a wanted type, from a server of the control zone. The table is walked once.
 pub fn classify(table: &Table, packet: &[u8], name: &Name, qtype: u16, control: &Name) -> Class
-    requires packet { length packet.now ≤ 65535 }
+    requires packet { length packet.now ≤ longest_packet }
     requires table { AreRowsOf packet.now table.now }
     ensures { result ≡ class_named (marks.class_of control.now (model.rcode (message_in packet.now)) (marks.marks_of name.now qtype (message_in packet.now))) }
 {

@@ -9,6 +9,7 @@ ghost use Rattle.dc_marks.specs.Marked.{AreMarks, answers, has_authority, found_
 use crate::row::{is_answer, is_authority, owns, row};
 use dc_name::Name;
 use dc_packet::{Message, Rr};
+use dc_types::{class, rtype};
 
 /// What the records of class IN say of a name and a wanted type. The numbers are those of records in the table.
 #[derive(Clone, Copy, Debug, PartialEq, Eq)]
@@ -23,22 +24,11 @@ pub struct Found {
     pub referral: Option<usize>,
 }
 
-/// The class of the internet.
-const CLASS_IN: u16 = 1;
-
-const KIND_NS: u16 = 2;
-
-const KIND_CNAME: u16 = 5;
-
-const KIND_SOA: u16 = 6;
-
-const KIND_ANY: u16 = 255;
-
 /// Whether a type is wanted: it is the one asked for, or ANY is asked for.
 fn is_wanted(wanted: u16, kind: u16) -> bool
     ensures { result ≡ marks.is_wanted wanted kind }
 {
-    kind == wanted || wanted == KIND_ANY
+    kind == wanted || wanted == rtype::ANY
 }
 
 /// Whether the record of this number answers for a name.
@@ -47,14 +37,14 @@ fn answers_for(message: &Message<'_>, i: usize, rr: &Rr, name: &Name) -> bool
     requires row { rr.now ≡ row_of (record_in message.now i) }
     ensures { result ≡ answers name.now (record_in message.now i) }
 {
-    rr.class == CLASS_IN && is_answer(rr.section) && owns(message, i, name)
+    rr.class == class::IN && is_answer(rr.section) && owns(message, i, name)
 }
 
 /// Whether a record stands in the authority section.
 fn in_authority(rr: &Rr) -> bool
     ensures { (r : model.Record) → rr.now ≡ row_of r → result ≡ has_authority r }
 {
-    rr.class == CLASS_IN && is_authority(rr.section)
+    rr.class == class::IN && is_authority(rr.section)
 }
 
 /// A number, where it counts, or else the one that was there.
@@ -72,12 +62,12 @@ fn more(found: Found, message: &Message<'_>, i: usize, name: &Name, wanted: u16)
     let rr = row(message, i);
     let answers = answers_for(message, i, &rr, name);
     let authority = in_authority(&rr);
-    let renames = answers & ((rr.kind == KIND_CNAME) & !is_wanted(wanted, KIND_CNAME));
+    let renames = answers & ((rr.kind == rtype::CNAME) & !is_wanted(wanted, rtype::CNAME));
     Found {
         out: found.out | (answers & is_wanted(wanted, rr.kind)),
         alias: number(renames, i, found.alias),
-        soa: number(authority & (rr.kind == KIND_SOA), i, found.soa),
-        referral: number(authority & (rr.kind == KIND_NS), i, found.referral),
+        soa: number(authority & (rr.kind == rtype::SOA), i, found.soa),
+        referral: number(authority & (rr.kind == rtype::NS), i, found.referral),
     }
 }
 

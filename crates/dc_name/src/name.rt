@@ -6,9 +6,10 @@ ghost use Rattle.dc_name.specs.Wire.{IsWire, name_of};
 
 use crate::number::digits;
 use crate::text::without_final_dot;
-use crate::wire::{MOST_WIRE, copied, lowercase, push_label, refusal, same_wire, under_wire};
+use crate::wire::{copied, lowercase, push_label, refusal, same_wire, under_wire};
 use crate::{NameError, Suffix};
 use arrayvec::ArrayVec;
+use dc_limits::LONGEST_NAME;
 use dc_text::{Parts, octet};
 use std::marker::Model;
 
@@ -17,7 +18,7 @@ use std::marker::Model;
 /// Contracts see the list of its labels, the one farthest from the root first.
 #[derive(Debug, Drop)]
 pub struct Name {
-    bytes: ArrayVec<u8, MOST_WIRE>,
+    bytes: ArrayVec<u8, LONGEST_NAME>,
 }
 
 impl Model for Name {

@@ -8,12 +8,10 @@ ghost use Rattle.dc_name.specs.Wire.{IsWire, IsPushed, name_of};
 
 use crate::NameError;
 use arrayvec::ArrayVec;
+use dc_limits::{LONGEST_LABEL, LONGEST_NAME};
 
 /// The greatest number of bytes in a label.
-const MOST_LABEL: usize = 63;
-
-/// The greatest number of bytes in a name, the final zero among them.
-pub(crate) const MOST_WIRE: usize = 255;
+const MOST_LABEL: usize = LONGEST_LABEL as usize;
 
 /// Why `label` can't become the last label of a name of `wire_len` bytes.
 pub(crate) fn refusal(wire_len: usize, label: &[u8]) -> Option<NameError>
@@ -24,7 +22,7 @@ pub(crate) fn refusal(wire_len: usize, label: &[u8]) -> Option<NameError>
         Some(NameError::EmptyLabel)
     } else if label.len() > MOST_LABEL {
         Some(NameError::LongLabel)
-    } else if wire_len + 1 + label.len() > MOST_WIRE {
+    } else if wire_len + 1 + label.len() > LONGEST_NAME {
         Some(NameError::LongName)
     } else {
         None
@@ -32,7 +30,7 @@ pub(crate) fn refusal(wire_len: usize, label: &[u8]) -> Option<NameError>
 }
 
 /// Adds bytes that fit.
-fn append(bytes: &mut ArrayVec<u8, MOST_WIRE>, more: &[u8])
+fn append(bytes: &mut ArrayVec<u8, LONGEST_NAME>, more: &[u8])
     requires { array_vec_len bytes.old + length more.now ≤ 255 }
     ensures items { bytes.new.items ≡ bytes.old.items ++ more.now }
     ensures len { array_vec_len bytes.new ≡ array_vec_len bytes.old + length more.now }
@@ -41,7 +39,7 @@ fn append(bytes: &mut ArrayVec<u8, MOST_WIRE>, more: &[u8])
 }
 
 /// A copy of a name's bytes.
-pub(crate) fn copied(wire: &[u8]) -> ArrayVec<u8, MOST_WIRE>
+pub(crate) fn copied(wire: &[u8]) -> ArrayVec<u8, LONGEST_NAME>
     requires { length wire.now ≤ 255 }
     ensures { result.items ≡ wire.now }
 {
@@ -51,14 +49,14 @@ pub(crate) fn copied(wire: &[u8]) -> ArrayVec<u8, MOST_WIRE>
 }
 
 /// Brings ASCII letters into lower case.
-pub(crate) fn lowercase(bytes: &mut ArrayVec<u8, MOST_WIRE>)
+pub(crate) fn lowercase(bytes: &mut ArrayVec<u8, LONGEST_NAME>)
     ensures { bytes.new.items ≡ str_to_ascii_lowercase bytes.old.items }
 {
     bytes.as_mut_slice().make_ascii_lowercase();
 }
 
 /// Adds a label behind the last one: the final zero makes room for the label's length and bytes, and is added again.
-pub(crate) fn push_label(bytes: &mut ArrayVec<u8, MOST_WIRE>, label: &[u8])
+pub(crate) fn push_label(bytes: &mut ArrayVec<u8, LONGEST_NAME>, label: &[u8])
     requires name { IsWire bytes.old.items }
     requires fits { model.label_refusal (array_vec_len bytes.old) label.now ≡ None }
     ensures { IsPushed bytes.old.items label.now bytes.new.items }

@@ -6,6 +6,7 @@ ghost use Rattle.dc_packet.specs.Data.{body_of, named_form};
 use crate::name::read_name;
 use crate::number::u16_at;
 use dc_name::Name;
+use dc_types::{class, rtype};
 
 /// The data of a record: as bytes, or with the names in it.
 #[derive(Debug, Drop)]
@@ -29,18 +30,6 @@ pub(crate) enum Form {
     Soa,
 }
 
-const CLASS_IN: u16 = 1;
-
-const KIND_NS: u16 = 2;
-
-const KIND_CNAME: u16 = 5;
-
-const KIND_SOA: u16 = 6;
-
-const KIND_PTR: u16 = 12;
-
-const KIND_MX: u16 = 15;
-
 /// The number of bytes that the five numbers of an SOA take.
 const SOA_NUMBERS: usize = 20;
 
@@ -48,13 +37,13 @@ const SOA_NUMBERS: usize = 20;
 pub(crate) fn form_of(kind: u16, class: u16) -> Form
     ensures { named_form result ≡ model.form_of kind class }
 {
-    if class != CLASS_IN {
+    if class != class::IN {
         Form::Bytes
-    } else if kind == KIND_NS || kind == KIND_CNAME || kind == KIND_PTR {
+    } else if kind == rtype::NS || kind == rtype::CNAME || kind == rtype::PTR {
         Form::Host
-    } else if kind == KIND_MX {
+    } else if kind == rtype::MX {
         Form::Mx
-    } else if kind == KIND_SOA {
+    } else if kind == rtype::SOA {
         Form::Soa
     } else {
         Form::Bytes

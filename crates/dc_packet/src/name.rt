@@ -5,10 +5,8 @@ ghost use Rattle.dc_packet.specs.Reading.{IsNameAt};
 
 use crate::Malformed;
 use crate::part::{Part, part_at};
+use dc_limits::MOST_NAME_STEPS;
 use dc_name::Name;
-
-/// The greatest sum of a name's bytes and the pointers followed for it.
-const MOST_STEPS: usize = 999;
 
 /// The name at a place, and the place behind it: behind its zero byte, or behind the first pointer.
 ///
@@ -33,14 +31,14 @@ pub fn read_name(packet: &[u8], pos: usize) -> Result<(Name, usize), Malformed>
                 if !name.push(label) {
                     return Err(Malformed);
                 }
-                if name.wire().len() + pointers > MOST_STEPS {
+                if name.wire().len() + pointers > MOST_NAME_STEPS {
                     return Err(Malformed);
                 }
                 at += 1 + label.len();
             }
             Some(Part::Pointer(to)) => {
                 pointers += 1;
-                if name.wire().len() + pointers > MOST_STEPS {
+                if name.wire().len() + pointers > MOST_NAME_STEPS {
                     return Err(Malformed);
                 }
                 after = after.or(Some(at + 2));

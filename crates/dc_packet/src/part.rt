@@ -4,6 +4,7 @@ ghost use Rattle.dc_model.specs.Name as model;
 ghost use Rattle.dc_packet.specs.Part.{behind_part, named_part};
 
 use crate::number::u16_at;
+use dc_limits::LONGEST_LABEL;
 
 /// What a name goes on with at a place (RFC 1035, 4.1.4).
 #[derive(Drop)]
@@ -15,9 +16,6 @@ pub(crate) enum Part<'a> {
     /// The rest of the name stands at this place.
     Pointer(usize),
 }
-
-/// The greatest length of a label.
-const MOST_LABEL: u8 = 63;
 
 /// The least first byte of a pointer.
 const LEAST_POINTER: u8 = 192;
@@ -35,7 +33,7 @@ pub(crate) fn part_at(packet: &[u8], at: usize) -> Option<Part<'_>>
     if first == 0 {
         return Some(Part::End);
     }
-    if first <= MOST_LABEL {
+    if first <= LONGEST_LABEL {
         let end = at + 1 + first as usize;
         if end > packet.len() {
             return None;

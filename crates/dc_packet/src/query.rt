@@ -4,12 +4,10 @@ ghost use Rattle.dc_model.specs.Message as model;
 
 use byteorder::{BigEndian, ByteOrder};
 use dc_name::Name;
+use dc_types::class;
 
 /// Room for the greatest query behind its length: 2 bytes, a header of 12, a name of 255, a type and a class.
 pub type QueryBytes = [u8; 273];
-
-/// The class of the internet.
-const CLASS_IN: u16 = 1;
 
 /// The flags of a query that wants recursion.
 const RECURSION_DESIRED: u16 = 256;
@@ -27,7 +25,7 @@ pub fn write_query(name: &Name, qtype: u16, id: u16, recursive: bool, out: &mut 
     put_header(out, len as u16, id, flags(recursive));
     put(out, 14, wire);
     put_u16(out, behind, qtype);
-    put_u16(out, behind + 2, CLASS_IN);
+    put_u16(out, behind + 2, class::IN);
     len
 }
 

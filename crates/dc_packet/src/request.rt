@@ -7,12 +7,7 @@ ghost use Rattle.dc_packet.specs.Question.{asked};
 use crate::number::u16_at;
 use crate::question::{HEADER, question_of};
 use dc_name::Name;
-
-/// The class of the internet.
-const CLASS_IN: u16 = 1;
-
-/// The class that asks for any.
-const CLASS_ANY: u16 = 255;
+use dc_types::class;
 
 /// What a client asks.
 #[derive(Debug, Drop)]
@@ -57,7 +52,7 @@ pub fn read_request(packet: &[u8]) -> Option<Request>
 fn is_served(class: u16) -> bool
     ensures { result ≡ (class == model.class_in || class == model.class_any) }
 {
-    class == CLASS_IN || class == CLASS_ANY
+    class == class::IN || class == class::ANY
 }
 
 /// Whether flags are those of a standard query, whole, that asks for recursion (RFC 1035, 4.1.1).

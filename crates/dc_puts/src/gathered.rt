@@ -7,13 +7,10 @@ ghost use Rattle.dc_packet.specs.Data.{body_of};
 ghost use Rattle.dc_puts.specs.Held.{Holds};
 
 use arrayvec::ArrayVec;
+use dc_limits::LONGEST_GROUP;
 use dc_name::Name;
 use dc_packet::Data;
-
-/// The greatest length of a body that is kept.
-const MOST: usize = 8192;
-
-const KIND_A: u16 = 1;
+use dc_types::rtype;
 
 /// A body of at most 8192 bytes, or the mark that there were more.
 #[derive(Drop)]
@@ -57,7 +54,7 @@ impl Gathered {
     fn add_framed(&mut self, bytes: &[u8])
         ensures { (xs : List ℕ) → Holds self.old xs → Holds self.new (xs ++ model.framed bytes.now) }
     {
-        if bytes.len() > MOST {
+        if bytes.len() > LONGEST_GROUP {
             self.fits = false;
             return;
         }
@@ -95,7 +92,7 @@ impl Gathered {
     fn add_bytes(&mut self, kind: u16, bytes: &[u8])
         ensures { (xs : List ℕ) → Holds self.old xs → Holds self.new (xs ++ (if kind == model.kind_a then bytes.now else model.framed bytes.now)) }
     {
-        if kind == KIND_A {
+        if kind == rtype::A {
             self.add(bytes);
         } else {
             self.add_framed(bytes);

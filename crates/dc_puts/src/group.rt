@@ -27,16 +27,7 @@ use dc_name::Name;
 use dc_packet::{Data, Message, Rr, Section, kept_ttl};
 use dc_rules::{Rule, Zones};
 use dc_store::Store;
-
-const KIND_A: u16 = 1;
-
-const KIND_CNAME: u16 = 5;
-
-const KIND_SOA: u16 = 6;
-
-const KIND_AXFR: u16 = 252;
-
-const KIND_ANY: u16 = 255;
+use dc_types::rtype;
 
 /// Whether a section is that of the answers.
 fn is_answer(section: Section) -> bool
@@ -53,11 +44,11 @@ fn is_answer(section: Section) -> bool
 fn counts(kind: u16, rr: &Rr) -> bool
     ensures { (r : Record) → rr.now ≡ row_of r → result ≡ counts_for kind r }
 {
-    if kind == KIND_ANY || kind == KIND_AXFR {
+    if kind == rtype::ANY || kind == rtype::AXFR {
         false
-    } else if kind == KIND_SOA {
+    } else if kind == rtype::SOA {
         is_answer(rr.section)
-    } else if kind == KIND_A {
+    } else if kind == rtype::A {
         rr.len == 4
     } else {
         true
@@ -145,10 +136,10 @@ fn key_of(kind: u16, owner: &Name) -> ArrayVec<u8, 257>
 fn keeps(rule: Rule, kind: u16, some: bool) -> bool
     ensures { result ≡ keeps_kind (rule_of rule) kind some }
 {
-    if kind == KIND_ANY || kind == KIND_AXFR {
+    if kind == rtype::ANY || kind == rtype::AXFR {
         return false;
     }
-    if kind != KIND_SOA {
+    if kind != rtype::SOA {
         return true;
     }
     match rule {
@@ -175,7 +166,7 @@ fn looked_at(kind: u16, run: &[u16]) -> &[u16]
     requires { 0 < length run.now }
     ensures { result.now ≡ (if kind == kind_cname then drop (length run.now - 1) run.now else run.now) }
 {
-    if kind == KIND_CNAME {
+    if kind == rtype::CNAME {
         behind(run, run.len() - 1)
     } else {
         run

@@ -7,11 +7,10 @@ use crate::order::compare;
 use crate::record::row;
 use arrayvec::ArrayVec;
 use dc_packet::Message;
+use dc_types::class;
 
 /// The numbers of records: as many as a message of 65535 bytes can have.
 pub(crate) type Index = ArrayVec<u16, 5956>;
-
-const CLASS_IN: u16 = 1;
 
 /// The numbers of the records of class IN, as they stand in the message.
 #[tactic(auto, using(crate::proofs::Collecting::collecting))]
@@ -20,7 +19,7 @@ fn collect(message: &Message<'_>, index: &mut Index)
 {
     index.clear();
     for i in 0..message.count() {
-        if row(message, i).class == CLASS_IN {
+        if row(message, i).class == class::IN {
             index.push(i as u16);
         }
     }

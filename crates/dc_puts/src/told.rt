@@ -8,18 +8,15 @@ ghost use Rattle.dc_lines.specs.Causes.{host_kind_of};
 use dc_lines::{HostKind, Line, line_rr, line_rr_host, line_rr_mx, line_rr_soa};
 use dc_name::Name;
 use dc_packet::{Data, u32_at};
-
-const KIND_NS: u16 = 2;
-
-const KIND_CNAME: u16 = 5;
+use dc_types::rtype;
 
 /// The word for a type whose data is a name.
 fn host_kind(kind: u16) -> HostKind
     ensures { host_kind_of result ≡ puts.host_kind kind }
 {
-    if kind == KIND_NS {
+    if kind == rtype::NS {
         HostKind::Ns
-    } else if kind == KIND_CNAME {
+    } else if kind == rtype::CNAME {
         HostKind::Cname
     } else {
         HostKind::Ptr

@@ -1,5 +1,6 @@
 //! The walk over the sorted records of a message.
 ghost use Rattle.std.specs.Prelude.{◌≡◌, ◌<◌, ◌≤◌, ◌*◌, ◌^◌, length, take, drop, slice_index, map, true, false};
+ghost use Rattle.dc_model.specs.Limits.{longest_packet};
 ghost use Rattle.dc_model.specs.Name.{lower};
 ghost use Rattle.dc_model.specs.Puts as model;
 ghost use Rattle.dc_model.specs.Event.{line};
@@ -109,7 +110,7 @@ pub fn puts<S: Store, O: Effects>(
     store: &mut S,
     out: &mut O,
 )
-    requires packet { length packet.now ≤ 65535 }
+    requires packet { length packet.now ≤ longest_packet }
     requires table { AreRowsOf packet.now table.old }
     requires moment { now * 1000 < 2 ^ 62 }
     ensures acts { O.acted out.old (map line (model.lines_given (model.given_of zones.now control.now server (message_in packet.now)))) out.new }

@@ -2,6 +2,7 @@
 ghost use Rattle.std.specs.Prelude.{◌≡◌, ◌+◌, ◌≤◌, [], ◌++◌, length, take, drop, IfOk};
 ghost use Rattle.dc_model.specs.Message.{u16};
 
+use dc_limits::LONGEST_PACKET;
 use std::alloc::{AllocError, Global};
 use std::marker::Model;
 
@@ -12,7 +13,7 @@ pub(crate) const HEADER: usize = 12;
 pub(crate) const FRAME: usize = 2;
 
 /// The greatest number of bytes behind a header: that of a message is 65535.
-pub(crate) const MOST: usize = 65523;
+pub(crate) const MOST: usize = LONGEST_PACKET - HEADER;
 
 /// How many bytes can be put: those of a message, and of a record that is then found not to fit.
 const ROOM: usize = 67000;

@@ -12,6 +12,7 @@ ghost use Rattle.dc_reply.specs.contracts.reply.Reply.{the_row};
 use crate::Body;
 use crate::message::{FRAME, HEADER, MOST};
 use crate::writer::Writer;
+use dc_limits::LONGEST_DATAGRAM;
 use dc_name::Name;
 use std::alloc::{AllocError, Global};
 use std::marker::Model;
@@ -27,9 +28,6 @@ const FAILURE: u16 = 2;
 
 /// TC: the message is cut.
 const CUT: u16 = 0x0200;
-
-/// The greatest length of a datagram (RFC 1035, 4.2.1).
-const MOST_UDP: usize = 512;
 
 /// A reply to a client: it is begun with the question, gets its answers one by one, and is finished as a datagram or as a
 /// message in a stream. It is built once, in place, in memory that `new` takes.
@@ -158,7 +156,7 @@ impl Reply {
     {
         self.begun = false;
         let len = HEADER + self.writer.len();
-        if len <= MOST_UDP {
+        if len <= LONGEST_DATAGRAM {
             self.writer
                 .set_front(&front(len, self.id, self.flags, self.count as u16));
             return &self.writer.framed()[FRAME..];

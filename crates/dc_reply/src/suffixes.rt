@@ -3,15 +3,10 @@ ghost use Rattle.std.specs.Prelude.{◌≡◌, ◌<◌, ◌≤◌, [], ◌∷◌
 ghost use Rattle.dc_model.specs.Name.{lower, name_eq, wire_length};
 ghost use Rattle.dc_model.specs.Reply.{suffix_of, can_join, joined};
 
+use dc_limits::{LONGEST_SUFFIX, MOST_SUFFIXES};
 use dc_name::Suffix;
 use std::alloc::{AllocError, Global};
 use std::marker::Model;
-
-/// The greatest number of suffixes that are kept.
-const MOST_SUFFIXES: usize = 100;
-
-/// The greatest length on the wire of a suffix that is kept.
-const MOST_WIRE: usize = 128;
 
 /// The first place that a pointer can't reach.
 const OUT_OF_REACH: usize = 16384;
@@ -19,7 +14,7 @@ const OUT_OF_REACH: usize = 16384;
 /// A suffix and its place in the message.
 #[derive(Drop)]
 pub(crate) struct Entry {
-    wire: [u8; MOST_WIRE],
+    wire: [u8; LONGEST_SUFFIX],
     len: usize,
     place: u16,
 }
@@ -41,7 +36,7 @@ impl Entry {
     /// The root at place 0, which stands where there is no suffix yet.
     fn root() -> Entry {
         Entry {
-            wire: [0; MOST_WIRE],
+            wire: [0; LONGEST_SUFFIX],
             len: 1,
             place: 0,
         }
@@ -139,7 +134,7 @@ impl Suffixes {
     fn can_join(&self, name: &Suffix<'_>, place: usize) -> bool
         ensures { result ≡ can_join name.now place self.now }
     {
-        name.wire().len() <= MOST_WIRE && (self.count < MOST_SUFFIXES && place < OUT_OF_REACH)
+        name.wire().len() <= LONGEST_SUFFIX && (self.count < MOST_SUFFIXES && place < OUT_OF_REACH)
     }
 
     /// Keeps a name at a place behind the others.

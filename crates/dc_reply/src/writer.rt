@@ -9,14 +9,12 @@ use crate::Body;
 use crate::message::{HEADER, Message};
 use crate::suffixes::Suffixes;
 use dc_name::{Name, Suffix};
+use dc_types::class;
 use std::alloc::{AllocError, Global};
 use std::marker::Model;
 
 /// The two high bits of a pointer.
 const POINTER: u16 = 0xc000;
-
-/// The class of every answer, IN.
-const CLASS_IN: u16 = 1;
 
 /// How many numbers two bytes can say. Data with more bytes is part of no message.
 const NUMBERS: usize = 65536;
@@ -197,7 +195,7 @@ impl Writer {
         ensures { self.new.written ≡ before_bytes self.old.written (u16 kind ++ (u16 class_in ++ (u32 ttl ++ u16 0))) }
     {
         self.put_u16(kind);
-        self.put_u16(CLASS_IN);
+        self.put_u16(class::IN);
         self.put_u32(ttl);
         self.put_u16(0);
     }

@@ -10,12 +10,10 @@ use dc_desk::{Desk, Moment, Outcome, Point, Step};
 use dc_draws::shuffle;
 use dc_engine::Effects;
 use dc_frames::Query;
+use dc_limits::MOST_LEVELS;
 use dc_lines::{Line, line_tx};
 use dc_store::Store;
 use dc_transmit::Transmit;
-
-/// How many frames a query has at most.
-const MOST_LEVELS: usize = 5;
 
 /// The next server name of the frame on top has a frame of its own, but at level 4 it is left out. When none is left, the servers
 /// are asked, where an address is known.

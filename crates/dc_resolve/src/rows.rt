@@ -9,15 +9,11 @@ use dc_answer::{reply_failure, reply_missing};
 use dc_desk::{Cause, Desk, Outcome, Point, Step};
 use dc_engine::Effects;
 use dc_frames::Query;
+use dc_limits::MOST_ALIASES;
 use dc_lines::{Line, line_servfail};
 use dc_name::Name;
 use dc_store::Store;
-
-/// A request for a whole zone isn't served (RFC 5936).
-const KIND_AXFR: u16 = 252;
-
-/// How many aliases a client is told of at most.
-const MOST_ALIASES: usize = 16;
+use dc_types::rtype;
 
 /// The query begins: its lowest frame looks for the name that was asked for.
 #[tactic(auto, unfolding(dc_machine::specs::Turn::begin_row))]
@@ -30,7 +26,7 @@ pub(crate) fn begin<S: Store, O: Effects>(
 {
     let _ = &desk.link;
     let _ = &out;
-    if query.request().qtype == KIND_AXFR {
+    if query.request().qtype == rtype::AXFR {
         return Step::End(Outcome::Dropped(Cause::Axfr));
     }
     query.begin();

@@ -19,13 +19,11 @@ use dc_desk::{Cause, Desk, Moment, Outcome, Point, Step};
 use dc_engine::{Effects, Inbox};
 use dc_frames::Query;
 use dc_heard::{Answered, hear};
+use dc_limits::MOST_ROWS;
 use dc_look::look;
 use dc_packet::Request;
 use dc_store::Store;
 use dc_transmit::{Progress, Transmit};
-
-/// More rows than a turn can have.
-const MOST_ROWS: u32 = 4000;
 
 /// One row of the table.
 #[tactic(auto, unfolding(dc_machine::specs::Turn::row), using(crate::proofs::TurnLemmas::took_step))]

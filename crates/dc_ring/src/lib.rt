@@ -3,6 +3,7 @@
 #![tactic(auto)]
 
 ghost use Rattle.std.specs.Prelude.{◌≡◌, ℕ, ◌+◌, ◌-◌, ◌<◌, ◌≤◌, ◌↔◌, ◌^◌, length, List, true, option_map, IfOk, IsTrue, min, max};
+ghost use Rattle.dc_model.specs.Limits.{least_cache, longest_body, longest_key, most_cache};
 ghost use Rattle.dc_model.specs.Cache.{Cache, Entry, evicted, rotated, added, placed, has_room, empty, get};
 ghost use Rattle.dc_model.specs.Layout.{Layout};
 ghost use Rattle.dc_store.specs.Lent.{hit_value};
@@ -11,6 +12,7 @@ ghost use Rattle.dc_ring.specs.Image.{writer_of, oldest_of, unused_of, IsImage};
 use dc_arena::Arena;
 use dc_chain::Chains;
 pub use dc_chain::{Marks, Steps};
+use dc_limits::{LEAST_CACHE, LONGEST_BODY, LONGEST_KEPT, LONGEST_KEY, MOST_CACHE};
 pub use dc_store::{Hit, NoMemory, PlainStore, Store};
 use std::alloc::Global;
 use std::marker::{Brand, Model};
@@ -43,9 +45,9 @@ impl Model for ArenaStore {
 impl ArenaStore {
     /// An empty cache of a size that is brought into 100 to 1000000000 bytes.
     pub fn new(alloc: Global, size: u32) -> Result<ArenaStore, NoMemory>
-        ensures { IfOk result (λ s. s ≡ empty (min (max size 100) 1000000000)) }
+        ensures { IfOk result (λ s. s ≡ empty (min (max size least_cache) most_cache)) }
     {
-        let size = size.max(100).min(1000000000);
+        let size = size.max(LEAST_CACHE).min(MOST_CACHE);
         let chains = Chains::new(alloc, size)?;
         let writer = chains.hsize();
         Ok(ArenaStore {
@@ -144,8 +146,8 @@ impl ArenaStore {
 
     /// Puts an entry in front.
     fn add(&mut self, key: &[u8], body: &[u8], expiry: u64)
-        requires key { length key.now ≤ 1000 }
-        requires body { length body.now ≤ 1000000 }
+        requires key { length key.now ≤ longest_key }
+        requires body { length body.now ≤ longest_body }
         requires room { has_room self.old (20 + length key.now + length body.now) ≡ true }
         ensures { self.new ≡ added (record { key = key.now; body = body.now; expiry = expiry }) self.old }
     {
@@ -179,8 +181,8 @@ impl ArenaStore {
 
     /// Makes room and puts the entry in front, or leaves nothing.
     fn place(&mut self, key: &[u8], body: &[u8], expiry: u64)
-        requires key { length key.now ≤ 1000 }
-        requires body { length body.now ≤ 1000000 }
+        requires key { length key.now ≤ longest_key }
+        requires body { length body.now ≤ longest_body }
         ensures { self.new ≡ placed (record { key = key.now; body = body.now; expiry = expiry }) self.old }
     {
         let size = 20 + key.len() as u32 + body.len() as u32;
@@ -206,10 +208,10 @@ impl Store for ArenaStore {
     }
 
     fn put(&mut self, key: &[u8], body: &[u8], ttl: u32, now: u64) {
-        if key.len() > 1000 || body.len() > 1000000 || ttl == 0 {
+        if key.len() > LONGEST_KEY || body.len() > LONGEST_BODY || ttl == 0 {
             return;
         }
-        self.place(key, body, now + u64::from(ttl.min(604800)));
+        self.place(key, body, now + u64::from(ttl.min(LONGEST_KEPT)));
     }
 
     fn motion(&self) -> u64 {

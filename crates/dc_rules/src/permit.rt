@@ -1,17 +1,16 @@
 //! Who may ask.
 ghost use Rattle.std.specs.List.{AllByRecursion};
 ghost use Rattle.std.specs.Prelude.{◌≡◌, ◌≤◌, [], length, map, IfOk, OnErr, MatchResult};
+ghost use Rattle.dc_model.specs.Limits.{most_permissions};
 ghost use Rattle.dc_model.specs.Rules.{add_permit, permitted};
 ghost use Rattle.dc_rules.specs.Refusals.{permit_refusal};
 
 use crate::{NoMemory, PermitError};
 use arrayvec::ArrayVec;
+use dc_limits::MOST_PERMISSIONS;
 use dc_text::octets;
 use std::alloc::Global;
 use std::marker::Model;
-
-/// How many permissions there may be.
-const MOST_PERMISSIONS: usize = 4096;
 
 /// Up to 4096 addresses and beginnings of addresses that may ask (after djbdns' okclient.c). It takes its memory in
 /// `new`.
@@ -65,7 +64,7 @@ impl Permit {
     pub fn as_slice(&self) -> &[ArrayVec<u8, 4>]
         ensures octets { map (λ p. p.items) result.now ≡ self.now }
         ensures each { AllByRecursion (λ o. (1 ≤ length o) × (length o ≤ 4)) self.now }
-        ensures most { length result.now ≤ 4096 }
+        ensures most { length result.now ≤ most_permissions }
     {
         &self.places
     }

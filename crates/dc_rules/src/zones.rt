@@ -12,12 +12,10 @@ ghost use Rattle.dc_rules.specs.Refusals.{zone_refusal, rule_of};
 ghost use Rattle.dc_rules.specs.Table.{zone_at, table_of, IsEnd};
 
 use crate::{NoMemory, ZoneError};
+use dc_limits::MOST_ZONES;
 use dc_name::{Name, Suffix};
 use std::alloc::Global;
 use std::marker::Model;
-
-/// How many zones there may be.
-const MOST_ZONES: usize = 256;
 
 /// How negative answers live, and whether SOA records are kept.
 #[derive(Clone, Copy, Debug, PartialEq, Eq)]

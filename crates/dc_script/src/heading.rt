@@ -6,6 +6,7 @@ ghost use Rattle.dc_script.specs.Heads.{heading_in};
 
 use crate::digits::{all_digits, decode};
 use crate::events::is;
+use dc_limits::{LEAST_CACHE, MOST_CACHE};
 use dc_name::Name;
 use dc_text::{Parts, address, number};
 
@@ -53,7 +54,7 @@ fn version_named(word: &[u8]) -> Option<u64>
 fn size_named(word: &[u8]) -> Option<u32>
     ensures { result ≡ spec.size_word word.now }
 {
-    let size = number(word)?.max(100).min(1_000_000_000);
+    let size = number(word)?.max(LEAST_CACHE as u64).min(MOST_CACHE as u64);
     Some(size as u32)
 }
 

@@ -7,9 +7,7 @@ ghost use Rattle.dc_show.specs.Parts.{host_part};
 use crate::parts::is_wanted;
 use dc_name::Name;
 use dc_packet::{Data, Message};
-
-/// The type of names of addresses.
-const KIND_PTR: u16 = 12;
+use dc_types::rtype;
 
 /// Whether a message has an IN record of this type among its answers.
 #[tactic(auto, unfolding(dc_lookup::specs::Text::answers))]
@@ -30,7 +28,7 @@ fn host_at(message: &Message<'_>, at: usize) -> Option<Name>
     requires { at < length message.now.records }
     ensures { (r : model.Record) → slice_get message.now.records at ≡ Some r → result ≡ host_part r }
 {
-    if !is_wanted(KIND_PTR, message.rr(at)) {
+    if !is_wanted(rtype::PTR, message.rr(at)) {
         return None;
     }
     match message.data(at) {

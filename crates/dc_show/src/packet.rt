@@ -1,5 +1,6 @@
 //! The text of a whole packet.
 ghost use Rattle.std.specs.Prelude.{◌≡◌, ℕ, ◌≤◌, ◌++◌, ◌==◌, ◌&&◌, length, flat_map, codes, true, Some};
+ghost use Rattle.dc_model.specs.Limits.{longest_packet};
 ghost use Rattle.dc_model.specs.Message as model;
 ghost use Rattle.dc_event.specs.Answers.{well_put};
 ghost use Rattle.dc_event.specs.Causes.{Fares};
@@ -11,18 +12,13 @@ ghost use Rattle.dc_lookup.specs.Text.{text_if, rcode_text, header_text, section
 ghost use Rattle.dc_show.specs.Lines.{line_of, counts_text};
 
 use crate::names::octal;
-use crate::parts::{CLASS_IN, KIND_A, Part, write_each};
+use crate::parts::{Part, write_each};
 use crate::piece::{write_dot, write_space_dot, write_space_number};
 use dc_event::{Put, Sink};
 use dc_name::Name;
 use dc_packet::{Data, Message, Rr, Section, Table, question_of, u16_at, u32_at};
+use dc_types::{class, rtype};
 use dc_writer::Writer;
-
-/// The type of name servers.
-const KIND_NS: u16 = 2;
-
-/// The type of aliases.
-const KIND_CNAME: u16 = 5;
 
 /// Writes a type and a name.
 fn write_question<K: Sink>(writer: &mut Writer, sink: &mut K, kind: u16, name: &Name)
@@ -105,9 +101,9 @@ fn section_word(section: Section) -> &'static [u8]
 fn host_word(kind: u16) -> &'static [u8]
     ensures { result.now ≡ host_word kind }
 {
-    if kind == KIND_NS {
+    if kind == rtype::NS {
         b"NS"
-    } else if kind == KIND_CNAME {
+    } else if kind == rtype::CNAME {
         b"CNAME"
     } else {
         b"PTR"
@@ -141,7 +137,7 @@ fn is_address(kind: u16, class: u16, len: usize) -> bool
     ensures so { result ≡ (class == model.class_in && (kind == model.kind_a && len == 4)) }
     ensures four { result ≡ true → len ≡ 4 }
 {
-    class == CLASS_IN && kind == KIND_A && len == 4
+    class == class::IN && kind == rtype::A && len == 4
 }
 
 /// Writes data that is bytes: an address of class IN, or the type and the bytes.
@@ -237,7 +233,7 @@ impl Part for Lines {
 
 /// Writes the question that a packet repeats.
 fn write_asked<K: Sink>(writer: &mut Writer, sink: &mut K, packet: &[u8], message: &Message<'_>)
-    requires packet { length packet.now ≤ 65535 }
+    requires packet { length packet.now ≤ longest_packet }
     requires message { model.message_of packet.now ≡ Some message.now }
     ensures wrote { Wrote K.gained K.faults writer.old sink.old (header_text packet.now ++ codes "query: " ++ question_text message.now.question.kind message.now.question.name) writer.new sink.new }
     ensures fared { Fated K.gained K.refused K.faults writer.old.failed writer.new.failed sink.old sink.new }
@@ -259,7 +255,7 @@ pub fn show_packet<K: Sink>(
     table: &Table,
     sink: &mut K,
 ) -> Put
-    requires packet { length packet.now ≤ 65535 }
+    requires packet { length packet.now ≤ longest_packet }
     requires table { AreRowsOf packet.now table.now }
     ensures whole { (m : model.Message) → model.message_of packet.now ≡ Some m → PutWhole K.gained result sink.old (packet_text name.now qtype packet.now m) sink.new }
     ensures fares { Fares K.gained K.refused K.faults (well_put result) sink.old sink.new }

@@ -13,19 +13,8 @@ ghost use Rattle.dc_show.specs.Parts.{is_wanted_by, ip_part, txt_part, mx_part};
 use crate::piece::write_mx;
 use dc_event::Sink;
 use dc_packet::{Data, Message, Rr, Section};
+use dc_types::{class, rtype};
 use dc_writer::Writer;
-
-/// The class of the internet.
-pub(crate) const CLASS_IN: u16 = 1;
-
-/// The type of addresses.
-pub(crate) const KIND_A: u16 = 1;
-
-/// The type of mail exchanges.
-pub(crate) const KIND_MX: u16 = 15;
-
-/// The type of texts.
-pub(crate) const KIND_TXT: u16 = 16;
 
 /// What each record of a message adds to a text.
 pub(crate) trait Part {
@@ -44,7 +33,7 @@ pub(crate) trait Part {
 pub(crate) fn is_wanted(wanted: u16, rr: Rr) -> bool
     ensures { result ≡ is_wanted_by wanted (named_section rr.section) rr.kind rr.class }
 {
-    rr.class == CLASS_IN && is_answer(rr.section) && rr.kind == wanted
+    rr.class == class::IN && is_answer(rr.section) && rr.kind == wanted
 }
 
 /// Whether a section is that of the answers.
@@ -142,7 +131,7 @@ impl Part for Addresses {
     ghost text = { ip_part };
 
     fn write<K: Sink>(writer: &mut Writer, sink: &mut K, message: &Message<'_>, at: usize) {
-        if is_wanted(KIND_A, message.rr(at)) {
+        if is_wanted(rtype::A, message.rr(at)) {
             write_datum(writer, sink, &message.data(at));
         }
     }
@@ -152,7 +141,7 @@ impl Part for Texts {
     ghost text = { txt_part };
 
     fn write<K: Sink>(writer: &mut Writer, sink: &mut K, message: &Message<'_>, at: usize) {
-        if is_wanted(KIND_TXT, message.rr(at)) {
+        if is_wanted(rtype::TXT, message.rr(at)) {
             write_text(writer, sink, &message.data(at));
         }
     }
@@ -162,7 +151,7 @@ impl Part for Exchanges {
     ghost text = { mx_part };
 
     fn write<K: Sink>(writer: &mut Writer, sink: &mut K, message: &Message<'_>, at: usize) {
-        if is_wanted(KIND_MX, message.rr(at)) {
+        if is_wanted(rtype::MX, message.rr(at)) {
             write_exchange(writer, sink, &message.data(at));
         }
     }

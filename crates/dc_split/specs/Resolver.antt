@@ -1,5 +1,6 @@
 -- The resolver's machine over several cores.
 use Rattle.std.specs.Prelude.{ℕ, ◌/◌, min, max, false, List, [], ◌∷◌, replicate}
+use Rattle.dc_model.specs.Limits.{least_cache, most_cache}
 use Rattle.dc_model.specs.Cache.{empty}
 use Rattle.dc_model.specs.Event.{Event, Action, line}
 use Rattle.dc_model.specs.Line.{line_starting}
@@ -20,9 +21,9 @@ resolver rules = record {
   handled = λ m. 0;
 }
 
--- The bytes of each core's cache, where all of them have so many: a part for each, brought into 100 to 1000000000.
+-- The bytes of each core's cache, where all of them have so many: a part for each, brought into the limits of a cache.
 abbrev pub part_size : (cores size : ℕ) → ℕ
-part_size cores size = min (max (size / cores) 100) 1000000000
+part_size cores size = min (max (size / cores) least_cache) most_cache
 
 -- So many cores with empty caches, which have so many bytes together.
 unfoldable pub cores_of : (cores size : ℕ) → List Machine

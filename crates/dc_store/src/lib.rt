@@ -9,6 +9,7 @@ ghost use Rattle.dc_store.specs.Lent.{hit_value};
 
 mod plain;
 
+use dc_limits::LONGEST_KEPT;
 pub use plain::PlainStore;
 pub use std::alloc::AllocError as NoMemory;
 
@@ -30,7 +31,7 @@ impl<'a> Hit<'a> {
         }
         Some(Hit {
             body,
-            ttl: (expiry - now).min(604800) as u32,
+            ttl: (expiry - now).min(LONGEST_KEPT as u64) as u32,
         })
     }
 }

@@ -1,11 +1,13 @@
 //! The cache with its entries packed, newest first.
 ghost use Rattle.std.specs.Prelude.{◌≡◌, ℕ, ◌+◌, ◌-◌, ◌*◌, ◌/◌, ◌%◌, ◌^◌, ◌<◌, ◌≤◌, ◌↔◌, length, ◌++◌, take, drop, min, max, option_map, true, IfOk, IsTrue};
+ghost use Rattle.dc_model.specs.Limits.{least_cache, longest_body, longest_key, most_cache};
 ghost use Rattle.dc_model.specs.Cache.{Cache, Entry, hsize, evicted, rotated, added, placed, has_room, empty};
 ghost use Rattle.dc_store.specs.Lists.{entries, payload};
 ghost use Rattle.dc_store.specs.Found.{entry_of, look_up};
 
 use crate::{Hit, NoMemory, Store};
 use dc_bucket::{bucket_of, hsize_of};
+use dc_limits::{LEAST_CACHE, LONGEST_BODY, LONGEST_KEPT, LONGEST_KEY, MOST_CACHE};
 use std::alloc::Global;
 use std::marker::Model;
 
@@ -105,9 +107,9 @@ impl PlainStore {
     /// An empty cache of a size that is brought into 100 to 1000000000.
     #[tactic(auto, using(dc_model::proofs::SizeLemmas::hsize_most))]
     pub fn new(alloc: Global, size: u32) -> Result<PlainStore, NoMemory>
-        ensures { IfOk result (λ s. s ≡ empty (min (max size 100) 1000000000)) }
+        ensures { IfOk result (λ s. s ≡ empty (min (max size least_cache) most_cache)) }
     {
-        let size = size.max(100).min(1000000000);
+        let size = size.max(LEAST_CACHE).min(MOST_CACHE);
         let heads = hsize_of(size);
         let capacity = (size - heads) as usize;
         let records = Vec::with_capacity(alloc, capacity / 20)?;
@@ -152,8 +154,8 @@ impl PlainStore {
 
     /// Puts an entry in front.
     fn add(&mut self, key: &[u8], body: &[u8], expiry: u64)
-        requires key { length key.now ≤ 1000 }
-        requires body { length body.now ≤ 1000000 }
+        requires key { length key.now ≤ longest_key }
+        requires body { length body.now ≤ longest_body }
         requires room { has_room self.old (20 + length key.now + length body.now) ≡ true }
         ensures { self.new ≡ added (record { key = key.now; body = body.now; expiry = expiry }) self.old }
     {
@@ -192,8 +194,8 @@ impl PlainStore {
 
     /// Makes room and puts the entry in front, or leaves nothing.
     fn place(&mut self, key: &[u8], body: &[u8], expiry: u64)
-        requires key { length key.now ≤ 1000 }
-        requires body { length body.now ≤ 1000000 }
+        requires key { length key.now ≤ longest_key }
+        requires body { length body.now ≤ longest_body }
         ensures { self.new ≡ placed (record { key = key.now; body = body.now; expiry = expiry }) self.old }
     {
         let n = 20 + key.len() + body.len();
@@ -222,10 +224,10 @@ impl Store for PlainStore {
     }
 
     fn put(&mut self, key: &[u8], body: &[u8], ttl: u32, now: u64) {
-        if key.len() > 1000 || body.len() > 1000000 || ttl == 0 {
+        if key.len() > LONGEST_KEY || body.len() > LONGEST_BODY || ttl == 0 {
             return;
         }
-        self.place(key, body, now + ttl.min(604800) as u64);
+        self.place(key, body, now + ttl.min(LONGEST_KEPT) as u64);
     }
 
     fn motion(&self) -> u64 {

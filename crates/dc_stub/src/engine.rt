@@ -1,5 +1,6 @@
 //! One question as an engine.
 ghost use Rattle.std.specs.Prelude.{◌≡◌, ◌+◌, ◌<◌, ◌≤◌, ◌^◌, ℕ, List, min, length, IfOk, IfSome, option_map, Some, None, false, refl};
+ghost use Rattle.dc_model.specs.Limits.{longest_packet};
 ghost use Rattle.dc_model.specs.Draws.{draws_of};
 ghost use Rattle.dc_model.specs.Event.{Event, tick};
 ghost use Rattle.dc_model.specs.Places.{all_empty};
@@ -71,7 +72,7 @@ impl StubEngine {
     /// The packet that was accepted. `None` exactly where none was.
     pub fn answer(&self) -> Option<&[u8]>
         ensures value { option_map (λ b. b.now) result ≡ accepted_by self.now.asking.stands }
-        ensures most { IfSome result (λ b. length b.now ≤ 65535) }
+        ensures most { IfSome result (λ b. length b.now ≤ longest_packet) }
     {
         match self.answer {
             Some(Progress::Packet) => Some(self.sender.packet()),

@@ -1,5 +1,6 @@
 //! A word is asked, and the answer shown.
 ghost use Rattle.std.specs.Prelude.{◌≡◌, ◌≢◌, ◌+◌, ◌-◌, ◌<◌, ◌≤◌, ◌^◌, ℕ, List, min, length, false, true, Some, None, IfOk};
+ghost use Rattle.dc_model.specs.Limits.{longest_packet};
 ghost use Rattle.dc_model.specs.Message.{Message as Said, message_of};
 ghost use Rattle.dc_model.specs.Places.{all_empty};
 ghost use Rattle.dc_packet.specs.Rows.{AreRowsOf};
@@ -28,7 +29,7 @@ pub trait Shows {
 
     /// Writes the text of a packet that answers a question.
     fn show<K: Sink>(name: &Name, kind: u16, packet: &[u8], table: &Table, sink: &mut K) -> Put
-        requires packet { length packet.now ≤ 65535 }
+        requires packet { length packet.now ≤ longest_packet }
         requires table { AreRowsOf packet.now table.now }
         ensures whole { (m : Said) → message_of packet.now ≡ Some m → IsShown K.gained result sink.old (shown_by tool name.now kind packet.now m) sink.new }
         ensures fares { Fares K.gained K.refused K.faults (well_put result) sink.old sink.new };
@@ -72,7 +73,7 @@ fn tell<T: Shows, K: Sink>(
     table: &mut Table,
     sink: &mut K,
 ) -> ToolStatus
-    requires packet { length packet.now ≤ 65535 }
+    requires packet { length packet.now ≤ longest_packet }
     ensures told { (text : List ℕ) × K.gained sink.old text sink.new × Tells T.tool name.now kind packet.now text result }
     ensures sink_fares { Fares K.gained K.refused K.faults (output_well result) sink.old sink.new }
 {

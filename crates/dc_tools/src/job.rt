@@ -9,18 +9,7 @@ use crate::tools::{DnsIp, DnsMx, DnsName, DnsTxt};
 use dc_name::Name;
 use dc_stub::Job;
 use dc_text::address;
-
-/// The type of addresses.
-const KIND_A: u16 = 1;
-
-/// The type of names of addresses.
-const KIND_PTR: u16 = 12;
-
-/// The type of mail exchanges.
-const KIND_MX: u16 = 15;
-
-/// The type of texts.
-const KIND_TXT: u16 = 16;
+use dc_types::rtype;
 
 /// A tool each of whose words is a job.
 pub trait Word {
@@ -49,7 +38,7 @@ impl Word for DnsIp {
         let name = name_of(word)?;
         match name.is_address() {
             Some(addr) => Some(Job::Says(addr)),
-            None => Some(Job::Asks(name, KIND_A)),
+            None => Some(Job::Asks(name, rtype::A)),
         }
     }
 }
@@ -59,7 +48,7 @@ impl Word for DnsName {
 
     fn job(word: &[u8]) -> Option<Job> {
         let addr = address(word)?;
-        Some(Job::Asks(Name::reverse_of(addr), KIND_PTR))
+        Some(Job::Asks(Name::reverse_of(addr), rtype::PTR))
     }
 }
 
@@ -68,7 +57,7 @@ impl Word for DnsTxt {
 
     fn job(word: &[u8]) -> Option<Job> {
         let name = name_of(word)?;
-        Some(Job::Asks(name, KIND_TXT))
+        Some(Job::Asks(name, rtype::TXT))
     }
 }
 
@@ -77,6 +66,6 @@ impl Word for DnsMx {
 
     fn job(word: &[u8]) -> Option<Job> {
         let name = name_of(word)?;
-        Some(Job::Asks(name, KIND_MX))
+        Some(Job::Asks(name, rtype::MX))
     }
 }

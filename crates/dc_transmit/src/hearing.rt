@@ -1,21 +1,16 @@
 //! What follows an event on an attempt.
+ghost use Rattle.dc_model.specs.Limits.{longest_packet};
+
 use crate::attempt::Attempt;
 use crate::progress::Progress;
 use crate::relevance::{is_served, is_truncated};
 use dc_engine::{Effects, Event, Inbox, Kind};
+use dc_limits::{LONGEST_DATAGRAM, MOST_REFUSALS};
 use dc_packet::{QueryBytes, Question, question_of, u16_at};
-
-/// The class of the internet.
-const CLASS_IN: u16 = 1;
-
-/// A datagram has at most so many bytes (RFC 1035, 2.3.4).
-const MOST_DATAGRAM: usize = 512;
+use dc_types::class;
 
 /// The port of servers.
 const SERVER_PORT: u16 = 53;
-
-/// So many local ports in a row may be refused, and one more ends the transmission.
-const MOST_REFUSALS: u8 = 9;
 
 impl Attempt {
     ghost use Rattle.std.specs.Prelude.{◌≡◌, ◌≤◌, ◌<◌, ◌^◌, ◌&&◌, not, length, IsTrue, IfSome, MatchOption, Some, true, false, []};
@@ -29,7 +24,7 @@ impl Attempt {
     /// Whether a packet answers the attempt: it has the attempt's id, and one question, that which was asked, in class IN
     /// (after djbdns' dns_transmit.c, `irrelevant`).
     fn is_relevant(&self, packet: &[u8]) -> bool
-        requires { length packet.now ≤ 65535 }
+        requires { length packet.now ≤ longest_packet }
         ensures relevant { result ≡ is_relevant (attempt_of self.now) packet.now }
         ensures header { IsTrue result → 12 ≤ length packet.now }
     {
@@ -51,7 +46,7 @@ impl Attempt {
         ensures { result ≡ asks_for (attempt_of self.now) (Some (question_read question.now)) }
     {
         if question.name.same(&self.asked.name) {
-            question.kind == self.asked.kind && question.class == CLASS_IN
+            question.kind == self.asked.kind && question.class == class::IN
         } else {
             false
         }
@@ -59,7 +54,7 @@ impl Attempt {
 
     /// Takes a packet over UDP as the answer, and ends the transmission.
     fn accept_datagram<O: Effects>(&mut self, packet: &[u8], links: &u64, out: &mut O) -> Progress
-        requires { length packet.now ≤ 65535 }
+        requires { length packet.now ≤ longest_packet }
         ensures { Did O.acted out.old out.new (accepted packet.now (attempt_of self.old) links.now) links.now result self.new }
     {
         self.gathering.keep(packet);
@@ -77,7 +72,7 @@ impl Attempt {
         out: &mut O,
     ) -> Progress
         requires least { 12 ≤ length packet.now }
-        requires most { length packet.now ≤ 65535 }
+        requires most { length packet.now ≤ longest_packet }
         requires moment { now < 2 ^ 62 }
         requires links { links.old < 2 ^ 60 }
         ensures { Did O.acted out.old out.new (answered packet.now (attempt_of self.old) (occasion now draws.now links.old)) links.new result self.new }
@@ -100,7 +95,7 @@ impl Attempt {
         links: &mut u64,
         out: &mut O,
     ) -> Progress
-        requires most { length packet.now ≤ 65535 }
+        requires most { length packet.now ≤ longest_packet }
         requires moment { now < 2 ^ 62 }
         requires links { links.old < 2 ^ 60 }
         ensures { Did O.acted out.old out.new (after_datagram packet.now (attempt_of self.old) (occasion now draws.now links.old)) links.new result self.new }
@@ -108,7 +103,7 @@ impl Attempt {
         if self.course.round.is_stream() {
             return Progress::Waiting;
         }
-        if packet.len() > MOST_DATAGRAM {
+        if packet.len() > LONGEST_DATAGRAM {
             return Progress::Waiting;
         }
         if self.is_relevant(packet) {
@@ -120,7 +115,7 @@ impl Attempt {
 
     /// Whether a packet over TCP is the answer: relevant, not cut short, and the server could serve.
     fn is_good(&self, packet: &[u8]) -> bool
-        requires { length packet.now ≤ 65535 }
+        requires { length packet.now ≤ longest_packet }
         ensures { result ≡ is_good (attempt_of self.now) packet.now }
     {
         self.is_relevant(packet) && !is_truncated(packet) && is_served(packet)

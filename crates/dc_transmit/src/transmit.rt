@@ -1,5 +1,6 @@
 //! A transmission.
 ghost use Rattle.std.specs.Prelude.{◌≡◌, ◌+◌, ◌<◌, ◌≤◌, ◌^◌, ◌∷◌, [], length, Some, IsSome, IsNone, IfOk, option_map, false};
+ghost use Rattle.dc_model.specs.Limits.{longest_packet};
 ghost use Rattle.dc_model.specs.Places.{all_empty};
 ghost use Rattle.dc_model.specs.Transmission.{waiting, opening_of, started};
 ghost use Rattle.dc_transmit.specs.Attempts.{occasion};
@@ -140,7 +141,7 @@ impl Transmit {
     pub fn packet(&self) -> &[u8]
         requires { IsSome self.now.accepted }
         ensures packet { option_map (λ p. p.packet) self.now.accepted ≡ Some result.now }
-        ensures most { length result.now ≤ 65535 }
+        ensures most { length result.now ≤ longest_packet }
     {
         self.attempt.gathering.packet()
     }

@@ -1,5 +1,6 @@
 -- How often a query asks: how many transmissions it makes, and how many attempts there are in each.
 use Rattle.std.specs.Prelude.{ℕ, ◌+◌, ◌≤◌, Bool, not, ◌&&◌, if◌then◌else◌, ◌==◌, nat_le, nat_lt, List, [], ◌∷◌, length}
+use Rattle.dc_model.specs.Limits.{most_turns, most_places, most_udp_tries}
 use Rattle.dc_model.specs.Transmission.{Attempt, udp_plan}
 use Rattle.dc_machine.specs.Machine.{Active}
 use Rattle.dc_machine.specs.Run.{Taken, newly_asked}
@@ -40,6 +41,6 @@ asked_by serial ts = asked_on serial ts nothing_asked
 
 -- At most 100 transmissions, and in the last of them at most 64 attempts over UDP and 16 over TCP.
 pub record IsModest (c : Asked) : Type 0 where
-  pub transmissions : c.transmissions ≤ 100
-  pub udp : c.udp ≤ 64
-  pub tcp : c.tcp ≤ 16
+  pub transmissions : c.transmissions ≤ most_turns
+  pub udp : c.udp ≤ most_udp_tries
+  pub tcp : c.tcp ≤ most_places

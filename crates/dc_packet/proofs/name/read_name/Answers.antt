@@ -40,15 +40,15 @@ returns-then-not-push-clause-read c =
     walk_past_label c.args.packet.now c.args.pos c.loop-name.name c.loop-name.after c.loop-name.pointers c.loop-name.at c.in-Some-Label.label.now c.loop-name.invariant.walk read
     (inl (too_long c.args.packet.now c.loop-name.at c.loop-name.name c.in-Some-Label.label.now read (sym c.push.ensures.fits ∙ c.if-not-push.true)))
 
-pub returns-then-wire-pointers-gt-MOST_STEPS-clause-read :
-    goal.returns-then-wire-pointers-gt-MOST_STEPS-clause-read
-returns-then-wire-pointers-gt-MOST_STEPS-clause-read c =
-    let read = label_read (goal.at.returns-then-wire-pointers-gt-MOST_STEPS-clause-read c).In-Some-Label in
+pub returns-then-wire-pointers-gt-MOST_NAME_STEPS-clause-read :
+    goal.returns-then-wire-pointers-gt-MOST_NAME_STEPS-clause-read
+returns-then-wire-pointers-gt-MOST_NAME_STEPS-clause-read c =
+    let read = label_read (goal.at.returns-then-wire-pointers-gt-MOST_NAME_STEPS-clause-read c).In-Some-Label in
     let label = c.in-Some-Label.label.now in
     let pushed = push_is c.loop-name.name c.push.new.self label c.push.result c.push.ensures.fits c.if-not-push.false c.push.ensures.name in
     let len : length c.wire.result.now ≡ model.wire_length (c.loop-name.name ++ (label ∷ [])) = ap (λ b. length b) c.wire.ensures.bytes ∙ ap model.wire_length pushed in
     walk_past_label c.args.packet.now c.args.pos c.loop-name.name c.loop-name.after c.loop-name.pointers c.loop-name.at label c.loop-name.invariant.walk read
-    (inr (omega (arith, len, c.if-wire-pointers-gt-MOST_STEPS.true)))
+    (inr (omega (arith, len, c.if-wire-pointers-gt-MOST_NAME_STEPS.true)))
 
 pub loop-name-smaller-in-Some-Label : goal.loop-name-smaller-in-Some-Label
 loop-name-smaller-in-Some-Label c =
@@ -56,7 +56,7 @@ loop-name-smaller-in-Some-Label c =
     let pushed = push_is c.loop-name.name c.push.new.self label c.push.result c.push.ensures.fits c.if-not-push.false c.push.ensures.name in
     let len : length c.wire.result.now ≡ model.wire_length c.push.new.self = ap (λ b. length b) c.wire.ensures.bytes in
     let grows : model.wire_length c.push.new.self ≡ model.wire_length c.loop-name.name + 1 + length label = ap model.wire_length pushed ∙ length-wire-push c.loop-name.name label in
-    omega (arith, len, grows, c.if-wire-pointers-gt-MOST_STEPS.false)
+    omega (arith, len, grows, c.if-wire-pointers-gt-MOST_NAME_STEPS.false)
 
 pub loop-name-preserved-in-Some-Label : goal.loop-name-preserved-in-Some-Label
 loop-name-preserved-in-Some-Label c =
@@ -66,18 +66,18 @@ loop-name-preserved-in-Some-Label c =
     let len : length c.wire.result.now ≡ model.wire_length c.push.new.self = ap (λ b. length b) c.wire.ensures.bytes in
     record {
       walk = walk_label c.args.packet.now c.args.pos c.loop-name.name c.push.new.self c.loop-name.after c.loop-name.pointers c.loop-name.at label c.loop-name.invariant.walk read pushed
-          c.wire.ensures.name (omega (arith, len, c.if-wire-pointers-gt-MOST_STEPS.false));
+          c.wire.ensures.name (omega (arith, len, c.if-wire-pointers-gt-MOST_NAME_STEPS.false));
       after = later_behind c.loop-name.after c.args.pos c.loop-name.at (c.loop-name.at + (1 + length label)) (omega arith) c.loop-name.invariant.after;
       within = c.loop-name.invariant.within;
     }
 
-pub returns-then-wire-pointers-gt-MOST_STEPS-2-clause-read :
-    goal.returns-then-wire-pointers-gt-MOST_STEPS-2-clause-read
-returns-then-wire-pointers-gt-MOST_STEPS-2-clause-read c =
-    let read = pointer_read (goal.at.returns-then-wire-pointers-gt-MOST_STEPS-2-clause-read c).In-Some-Pointer in
+pub returns-then-wire-pointers-gt-MOST_NAME_STEPS-2-clause-read :
+    goal.returns-then-wire-pointers-gt-MOST_NAME_STEPS-2-clause-read
+returns-then-wire-pointers-gt-MOST_NAME_STEPS-2-clause-read c =
+    let read = pointer_read (goal.at.returns-then-wire-pointers-gt-MOST_NAME_STEPS-2-clause-read c).In-Some-Pointer in
     let len : length c.wire-in-Some-Pointer.result.now ≡ model.wire_length c.loop-name.name = ap (λ b. length b) c.wire-in-Some-Pointer.ensures.bytes in
     walk_past_pointer c.args.packet.now c.args.pos c.loop-name.name c.loop-name.after c.loop-name.pointers c.loop-name.at c.in-Some-Pointer.to c.loop-name.invariant.walk read
-    (omega (arith, len, c.if-wire-pointers-gt-MOST_STEPS-2.true))
+    (omega (arith, len, c.if-wire-pointers-gt-MOST_NAME_STEPS-2.true))
 
 pub loop-name-preserved : goal.loop-name-preserved
 loop-name-preserved c =
@@ -86,7 +86,7 @@ loop-name-preserved c =
     let here = rw c.in-Some-Pointer.field-0-is at c.in-Some-Pointer.ensures.within in
     record {
       walk = rw c.or-after.ensures (walk_pointer c.args.packet.now c.args.pos c.loop-name.name c.loop-name.after c.loop-name.pointers c.loop-name.at c.in-Some-Pointer.to c.loop-name.invariant.walk read
-          (omega (arith, len, c.if-wire-pointers-gt-MOST_STEPS-2.false)));
+          (omega (arith, len, c.if-wire-pointers-gt-MOST_NAME_STEPS-2.false)));
       after = rw c.or-after.ensures (first_later c.loop-name.after c.args.pos c.loop-name.at (c.in-Some-Pointer.to + 1) c.loop-name.invariant.after);
       within = rw c.or-after.ensures (first_behind c.loop-name.after (c.loop-name.at + 2) (length c.args.packet.now) c.loop-name.invariant.within here);
     }

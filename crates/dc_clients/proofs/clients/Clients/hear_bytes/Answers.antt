@@ -15,14 +15,14 @@ returns-in_default-clause-step g c =
     took_as g.O.Effects.acted g.S.Store.cache _ _ (bytes_none (connection c.args.inbox.now.id m) i m missing)
     (took_nothing g.O.Effects.acted g.S.Store.cache g.met.O.Effects.acted_none c.args.out.now c.args.self.now)
 
-pub returns-then-gathered_len-bytes-gt-MOST_GATHERED-clause-step : goal.returns-then-gathered_len-bytes-gt-MOST_GATHERED-clause-step
-returns-then-gathered_len-bytes-gt-MOST_GATHERED-clause-step g c =
+pub returns-then-gathered_len-bytes-gt-LONGEST_GATHERED-clause-step : goal.returns-then-gathered_len-bytes-gt-LONGEST_GATHERED-clause-step
+returns-then-gathered_len-bytes-gt-LONGEST_GATHERED-clause-step g c =
     let m = machine_of g.S.Store.cache c.args.self.now in
     let i = input_of c.args.self.now c.args.inbox.now c.args.draws.now in
     let found = found_of c.args.self.now.connections c.find.result c.event.result.id c.args.inbox.now.id c.in-Some.i c.find.ensures.found (ap (λ (e : Event). e.id) c.event.ensures.event) c.in-Some.is in
     took_as g.O.Effects.acted g.S.Store.cache _ _
     (bytes_long (connection c.args.inbox.now.id m) (connection_at c.args.self.now.connections c.in-Some.i) i m c.gathered_len.result (length c.bytes-bytes.result.now)
-    found c.gathered_len.ensures.len (ap length c.bytes-bytes.ensures.bytes) c.if-gathered_len-bytes-gt-MOST_GATHERED.true)
+    found c.gathered_len.ensures.len (ap length c.bytes-bytes.ensures.bytes) c.if-gathered_len-bytes-gt-LONGEST_GATHERED.true)
     c.close.ensures.step
 
 pub returns-then-is_ready-clause-step : goal.returns-then-is_ready-clause-step
@@ -36,7 +36,7 @@ returns-then-is_ready-clause-step g c =
       found = found;
       count = c.gathered_len.ensures.len;
       bytes_are = c.bytes-bytes.ensures.bytes;
-      few = c.if-gathered_len-bytes-gt-MOST_GATHERED.false;
+      few = c.if-gathered_len-bytes-gt-LONGEST_GATHERED.false;
       connections = c.append.ensures.connections;
       there = c.append.ensures.at;
     })
@@ -54,7 +54,7 @@ returns-else-is_ready-clause-step g c =
       found = found;
       count = c.gathered_len.ensures.len;
       bytes_are = c.bytes-bytes.ensures.bytes;
-      few = c.if-gathered_len-bytes-gt-MOST_GATHERED.false;
+      few = c.if-gathered_len-bytes-gt-LONGEST_GATHERED.false;
       connections = c.append.ensures.connections;
       there = c.append.ensures.at;
     })

@@ -6,8 +6,8 @@ use Rattle.dc_clients.proofs.TookLemmas.{took_nothing, took_as}
 use Rattle.dc_clients.proofs.RequestLemmas.{found_there, has_room, displaces, displaces_none, left_fewer, left_links, left_below}
 use Rattle.dc_clients.proofs.clients.Clients.make_room.Goals as goal
 
-pub returns-then-udp-lt-MOST_UDP-clause-step : goal.returns-then-udp-lt-MOST_UDP-clause-step
-returns-then-udp-lt-MOST_UDP-clause-step g c =
+pub returns-then-udp-lt-MOST_QUERIES-clause-step : goal.returns-then-udp-lt-MOST_QUERIES-clause-step
+returns-then-udp-lt-MOST_QUERIES-clause-step g c =
     took_as g.O.Effects.acted g.S.Store.cache _ _ (has_room (machine_of g.S.Store.cache c.args.self.now) (omega (arith, c.udp.ensures.value)))
     (took_nothing g.O.Effects.acted g.S.Store.cache g.met.O.Effects.acted_none c.args.out.now c.args.self.now)
 

@@ -4,8 +4,8 @@ use Rattle.dc_model.specs.Reply.{header}
 use Rattle.dc_reply.proofs.FinishLemmas.{framed-is, length-reply_bytes, behind-frame, message-is, reads, udp-whole, udp-cut, cut-reads, length-take-most}
 use Rattle.dc_reply.proofs.reply.Reply.finish_udp.Goals as goal
 
-pub returns-then-len-le-MOST_UDP : goal.returns-then-len-le-MOST_UDP
-returns-then-len-le-MOST_UDP c =
+pub returns-then-len-le-LONGEST_DATAGRAM : goal.returns-then-len-le-LONGEST_DATAGRAM
+returns-then-len-le-LONGEST_DATAGRAM c =
     let whole : List ℕ = c.framed.result.now in
     let bytes : List ℕ = c.self.inside.writer.written.bytes in
     let n : ℕ = 12 + c.len-len.result in

@@ -9,10 +9,10 @@ returns-then-is_stream g c =
     did_nothing g.O.Effects.acted g.met.O.Effects.acted_none _ _ c.args.self.now c.args.links.now
     (datagram_over_tcp c.args.packet.now (attempt_of c.args.self.now) (occasion c.args.now c.args.draws.now c.args.links.now) (sym c.is_stream.ensures ∙ c.if-is_stream.true))
 
-pub returns-then-packet-gt-MOST_DATAGRAM : goal.returns-then-packet-gt-MOST_DATAGRAM
-returns-then-packet-gt-MOST_DATAGRAM g c =
+pub returns-then-packet-gt-LONGEST_DATAGRAM : goal.returns-then-packet-gt-LONGEST_DATAGRAM
+returns-then-packet-gt-LONGEST_DATAGRAM g c =
     did_nothing g.O.Effects.acted g.met.O.Effects.acted_none _ _ c.args.self.now c.args.links.now
-    (datagram_long c.args.packet.now (attempt_of c.args.self.now) (occasion c.args.now c.args.draws.now c.args.links.now) c.if-packet-gt-MOST_DATAGRAM.true)
+    (datagram_long c.args.packet.now (attempt_of c.args.self.now) (occasion c.args.now c.args.draws.now c.args.links.now) c.if-packet-gt-LONGEST_DATAGRAM.true)
 
 pub returns-else-is_relevant : goal.returns-else-is_relevant
 returns-else-is_relevant g c =
@@ -21,5 +21,5 @@ returns-else-is_relevant g c =
 
 pub returns-then-is_relevant : goal.returns-then-is_relevant
 returns-then-is_relevant g c =
-    did_as (datagram_heard c.args.packet.now (attempt_of c.args.self.now) (occasion c.args.now c.args.draws.now c.args.links.now) (sym c.is_stream.ensures ∙ c.if-is_stream.false) c.if-packet-gt-MOST_DATAGRAM.false
+    did_as (datagram_heard c.args.packet.now (attempt_of c.args.self.now) (occasion c.args.now c.args.draws.now c.args.links.now) (sym c.is_stream.ensures ∙ c.if-is_stream.false) c.if-packet-gt-LONGEST_DATAGRAM.false
     (sym c.is_relevant.ensures.relevant ∙ c.if-is_relevant.true)) c.hear_answer.ensures
