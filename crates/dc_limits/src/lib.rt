@@ -2,7 +2,7 @@
 #![tactic(auto)]
 
 ghost use Rattle.std.specs.Prelude.{◌≡◌};
-ghost use Rattle.dc_model.specs.Limits.{longest_label, longest_name, most_name_steps, longest_packet, longest_datagram, longest_request, longest_gathered, most_suffixes, longest_suffix, least_cache, most_cache, longest_key, longest_body, longest_group, longest_kept, most_ttl, longest_negative, lasting, most_zones, most_permissions, most_levels, most_hosts, most_aliases, most_rows, most_queries, most_connections, most_works, most_seats, most_links, client_wait, most_refusals};
+ghost use Rattle.dc_model.specs.Limits.{longest_label, longest_name, most_name_steps, longest_packet, longest_datagram, longest_request, longest_gathered, most_suffixes, longest_suffix, least_cache, most_cache, longest_key, longest_body, longest_group, longest_kept, most_ttl, longest_negative, lasting, most_zones, most_permissions, most_levels, most_hosts, most_aliases, most_rows, most_queries, most_connections, most_works, most_seats, most_links, first_wait, second_wait, third_wait, fourth_wait, tcp_wait, client_wait, most_refusals};
 
 /// How many bytes a label has at most.
 pub const LONGEST_LABEL: u8 = 63;
@@ -91,6 +91,21 @@ pub const MOST_SEATS: usize = 24;
 /// How many sockets there are for links to servers.
 pub const MOST_LINKS: usize = 224;
 
+/// How many milliseconds a server is given over UDP in the first round.
+pub const FIRST_WAIT: u64 = 1_000;
+
+/// And in the second.
+pub const SECOND_WAIT: u64 = 3_000;
+
+/// And in the third.
+pub const THIRD_WAIT: u64 = 11_000;
+
+/// And in the fourth.
+pub const FOURTH_WAIT: u64 = 45_000;
+
+/// How many milliseconds a server is given over TCP.
+pub const TCP_WAIT: u64 = 10_000;
+
 /// How many milliseconds a client's connection may be idle.
 pub const CLIENT_WAIT: u64 = 10_000;
 
@@ -128,6 +143,11 @@ pub fn numbers()
     ensures most_works_is { MOST_WORKS ≡ most_works }
     ensures most_seats_is { MOST_SEATS ≡ most_seats }
     ensures most_links_is { MOST_LINKS ≡ most_links }
+    ensures first_wait_is { FIRST_WAIT ≡ first_wait }
+    ensures second_wait_is { SECOND_WAIT ≡ second_wait }
+    ensures third_wait_is { THIRD_WAIT ≡ third_wait }
+    ensures fourth_wait_is { FOURTH_WAIT ≡ fourth_wait }
+    ensures tcp_wait_is { TCP_WAIT ≡ tcp_wait }
     ensures client_wait_is { CLIENT_WAIT ≡ client_wait }
     ensures most_refusals_is { MOST_REFUSALS ≡ most_refusals }
 {}

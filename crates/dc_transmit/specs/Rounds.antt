@@ -1,22 +1,23 @@
 -- Rounds of tries, and the places of servers in each.
 use Rattle.std.specs.Prelude.{ℕ, ◌+◌, Bool, true, false, List, [], ◌∷◌, map, flat_map, drop, Option, Some, None}
+use Rattle.dc_model.specs.Limits.{first_wait, second_wait, third_wait, fourth_wait, tcp_wait}
 use Rattle.dc_model.specs.Transmission.{Try, filled_from, round_of}
 use Rattle.dc_transmit.specs.declared.round.Round.{Round}
 use Rattle.dc_transmit.specs.declared.round.Round.TheVariants.{First, Second, Third, Fourth, Stream}
 
 -- How many milliseconds a server is given in a round.
 abbrev pub wait_of : Round → ℕ
-wait_of First = 1000
-wait_of Second = 3000
-wait_of Third = 11000
-wait_of Fourth = 45000
-wait_of Stream = 10000
+wait_of First = first_wait
+wait_of Second = second_wait
+wait_of Third = third_wait
+wait_of Fourth = fourth_wait
+wait_of Stream = tcp_wait
 
 -- The waits of the rounds that follow one.
 abbrev pub waits_after : Round → List ℕ
-waits_after First = 3000 ∷ 11000 ∷ 45000 ∷ []
-waits_after Second = 11000 ∷ 45000 ∷ []
-waits_after Third = 45000 ∷ []
+waits_after First = second_wait ∷ third_wait ∷ fourth_wait ∷ []
+waits_after Second = third_wait ∷ fourth_wait ∷ []
+waits_after Third = fourth_wait ∷ []
 waits_after Fourth = []
 waits_after Stream = []
 

@@ -1,20 +1,23 @@
 //! Rounds of attempts.
 ghost use Rattle.std.specs.Prelude.{◌≡◌, ◌≤◌, ◌∷◌, [], IfSome, MatchOption, false};
+ghost use Rattle.dc_model.specs.Limits.{fourth_wait};
 ghost use Rattle.dc_model.specs.Transmission.{waits_of};
 ghost use Rattle.dc_transmit.specs.Rounds.{wait_of, waits_after, is_stream, is_patient_round};
+
+use dc_limits::{FIRST_WAIT, FOURTH_WAIT, SECOND_WAIT, TCP_WAIT, THIRD_WAIT};
 
 /// A round of attempts, one at each server.
 #[derive(Clone, Copy, Debug)]
 pub(crate) enum Round {
-    /// Over UDP, with 1000 milliseconds for each server.
+    /// Over UDP, with the shortest wait for each server.
     First,
-    /// Over UDP, with 3000 milliseconds.
+    /// Over UDP, with a longer one.
     Second,
-    /// Over UDP, with 11000 milliseconds. Bad news is ignored in it.
+    /// Over UDP, with one that is longer still. Bad news is ignored in it.
     Third,
-    /// Over UDP, with 45000 milliseconds.
+    /// Over UDP, with the longest.
     Fourth,
-    /// Over TCP, with 10000 milliseconds.
+    /// Over TCP.
     Stream,
 }
 
@@ -34,14 +37,14 @@ impl Round {
     /// How many milliseconds a server is given.
     pub(crate) fn wait(self) -> u64
         ensures wait { result ≡ wait_of self }
-        ensures most { result ≤ 45000 }
+        ensures most { result ≤ fourth_wait }
     {
         match self {
-            Round::First => 1000,
-            Round::Second => 3000,
-            Round::Third => 11000,
-            Round::Fourth => 45000,
-            Round::Stream => 10000,
+            Round::First => FIRST_WAIT,
+            Round::Second => SECOND_WAIT,
+            Round::Third => THIRD_WAIT,
+            Round::Fourth => FOURTH_WAIT,
+            Round::Stream => TCP_WAIT,
         }
     }
 
