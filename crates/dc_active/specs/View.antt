@@ -1,5 +1,6 @@
 -- Active queries as the machine sees them.
 use Rattle.std.specs.Prelude.{◌≡◌, ℕ, ◌<◌, false, List, [], map, length, Option, Some, None, IsSome}
+use Rattle.dc_model.specs.Limits.{most_turns}
 use Rattle.dc_model.specs.Transmission.{Attempt}
 use Rattle.dc_machine.specs.Machine as machine
 use Rattle.dc_machine.specs.Machine.{Active, by_udp, by_tcp}
@@ -59,7 +60,7 @@ queries_of es = map entry_of es
 pub record IsWaiting (w : Work) : Type 0 where
   pub asking : IsSome w.sender.attempt
   pub frame : 0 < length (query_of w.query).frames
-  pub turns : (query_of w.query).turns < 100
+  pub turns : (query_of w.query).turns < most_turns
 
 -- A query of an entry waits, and the entry has the link and the deadline of its attempt.
 pub record IsFit (e : Entry) : Type 0 where

@@ -1,6 +1,6 @@
 //! Clients' connections: they open, bring requests, and close.
 ghost use Rattle.std.specs.Prelude.{◌≡◌, ◌+◌, ◌<◌, ◌≤◌, ◌^◌, length, true};
-ghost use Rattle.dc_model.specs.Limits.{most_active, most_works};
+ghost use Rattle.dc_model.specs.Limits.{most_active, most_connections, most_works};
 ghost use Rattle.dc_model.specs.Transmission.{is_whole};
 ghost use Rattle.dc_machine.specs.Machine.{connection, is_ready, asked as asked_step, with_place, conn_up_by, conn_bytes_by, conn_down_by};
 ghost use Rattle.dc_connections.specs.Places.{connection_at};
@@ -63,7 +63,7 @@ impl<S: Store> Clients<S> {
         requires works { works self.old ≡ most_works }
         requires counts { AreBelow (2 ^ 63) self.old.desk.counts }
         ensures step { Took O.acted S.cache out.old self.old out.new self.new (with_place (machine_of S.cache self.old)) }
-        ensures place { length self.new.connections < 20 }
+        ensures place { length self.new.connections < most_connections }
         ensures works { works self.new ≡ most_works }
         ensures accepted { self.new.desk.counts.accepted ≡ self.old.desk.counts.accepted }
     {

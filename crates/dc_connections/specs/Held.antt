@@ -1,5 +1,6 @@
 -- The connections that the fields of `Connections` hold.
 use Rattle.std.specs.Prelude.{◌≡◌, ◌≤◌, ◌+◌, List, length, vec_capacity}
+use Rattle.dc_model.specs.Limits.{most_connections}
 use Rattle.dc_machine.specs.Machine.{Connection}
 use Rattle.dc_connections.specs.Places.{AreApart}
 use Rattle.dc_connections.specs.Entries.{connections_of}
@@ -12,6 +13,6 @@ open_of a = connections_of a.entries.items
 -- No two have the same number; they and the spare streams are 20 together, with memory for 20 of each.
 pub record IsKept (a : Inside) : Type 0 where
   pub apart : AreApart (connections_of a.entries.items)
-  pub all : length a.entries.items + length a.spare.items ≡ 20
+  pub all : length a.entries.items + length a.spare.items ≡ most_connections
   pub room : 20 ≤ vec_capacity a.entries
   pub spare_room : 20 ≤ vec_capacity a.spare

@@ -1,6 +1,6 @@
 //! The open connections.
 ghost use Rattle.std.specs.Prelude.{◌≡◌, ◌≤◌, ◌<◌, ◌+◌, ◌==◌, ◌++◌, [], ◌∷◌, length, map, find, option_map, vec_capacity, None, IfOk, IfSome, true};
-ghost use Rattle.dc_model.specs.Limits.{longest_gathered, longest_packet};
+ghost use Rattle.dc_model.specs.Limits.{longest_gathered, longest_packet, most_connections};
 ghost use Rattle.dc_model.specs.Transmission.{is_whole};
 ghost use Rattle.dc_machine.specs.Machine.{with_connection, without_connection, renewed, first_message};
 ghost use Rattle.dc_connections.specs.Places.{connection_at, has_number, opened, with_more, with_less, AreApart};
@@ -47,7 +47,7 @@ fn find_number(entries: &[Entry], number: u64) -> Option<usize>
 
 /// Streams with no bytes, one for each connection.
 fn streams(alloc: Global) -> Result<Vec<Stream>, AllocError>
-    ensures len { IfOk result (λ v. length v.items ≡ 20) }
+    ensures len { IfOk result (λ v. length v.items ≡ most_connections) }
     ensures room { IfOk result (λ v. 20 ≤ vec_capacity v) }
 {
     let mut streams = Vec::with_capacity(alloc, MOST_CONNECTIONS)?;
@@ -71,7 +71,7 @@ impl Connections {
     /// How many are open.
     pub fn len(&self) -> usize
         ensures len { result ≡ length self.now }
-        ensures most { result ≤ 20 }
+        ensures most { result ≤ most_connections }
         ensures apart { AreApart self.now }
     {
         self.entries.len()
@@ -156,7 +156,7 @@ impl Connections {
     /// Opens a connection with no bytes, behind the others.
     pub fn open(&mut self, number: u64, addr: [u8; 4], port: u16, deadline: u64)
         requires new { find (has_number number) self.old ≡ None }
-        requires room { length self.old < 20 }
+        requires room { length self.old < most_connections }
         ensures connections { self.new ≡ self.old ++ opened number addr port deadline ∷ [] }
         ensures len { length self.new ≡ length self.old + 1 }
     {

@@ -1,6 +1,6 @@
 //! The packet, by its class.
 ghost use Rattle.std.specs.Prelude.{◌≡◌, ◌<◌, ◌≤◌, ◌^◌, length, map};
-ghost use Rattle.dc_model.specs.Limits.{longest_packet};
+ghost use Rattle.dc_model.specs.Limits.{longest_packet, most_turns};
 ghost use Rattle.dc_model.specs.Event.{second, line};
 ghost use Rattle.dc_model.specs.Message.{message_of};
 ghost use Rattle.dc_model.specs.Puts.{all_put, given_of, lines_given, puts_given};
@@ -42,7 +42,7 @@ pub fn hear<S: Store, O: Effects>(
     out: &mut O,
 ) -> Step
     requires some { 0 < length (query_of query.old).frames }
-    requires turns { (query_of query.old).turns < 100 }
+    requires turns { (query_of query.old).turns < most_turns }
     requires packet { length answer.packet.now ≤ longest_packet }
     requires place { answer.place < 16 }
     requires moment { moment.time < 2 ^ 62 }

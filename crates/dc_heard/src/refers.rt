@@ -1,5 +1,6 @@
 //! Referrals.
 ghost use Rattle.std.specs.Prelude.{◌≡◌, ◌≤◌, ◌<◌, ◌∷◌, ◌++◌, ℕ, [], length, take};
+ghost use Rattle.dc_model.specs.Limits.{most_hosts};
 ghost use Rattle.dc_model.specs.Cache.{Cache};
 ghost use Rattle.dc_model.specs.Places.{empty_places};
 ghost use Rattle.dc_reply.specs.Draft.{Draft};
@@ -52,7 +53,7 @@ fn look_for(query: &mut Query, message: &Message<'_>, zone: &Name)
 fn push_host(query: &mut Query, host: Option<Name>, count: usize) -> usize
     requires some { 0 < length (query_of query.old).frames }
     requires count { count ≡ length (top_of (query_of query.old)).hosts }
-    requires most { count ≤ 16 }
+    requires most { count ≤ most_hosts }
     ensures query { query_of query.new ≡ with_hosts (query_of query.old) (take 16 ((top_of (query_of query.old)).hosts ++ listed host)) }
     ensures count { result ≡ length (take 16 ((top_of (query_of query.old)).hosts ++ listed host)) }
 {

@@ -1,5 +1,6 @@
 //! The rules of a look, in their order.
 ghost use Rattle.std.specs.Prelude.{◌<◌, length};
+ghost use Rattle.dc_model.specs.Limits.{most_turns};
 ghost use Rattle.dc_frames.specs.View.{query_of};
 ghost use Rattle.dc_machine.specs.Turn.{look_row, rules_row, loopback_row};
 ghost use Rattle.dc_desk.specs.Steps.{TookRow};
@@ -19,7 +20,7 @@ pub fn look<S: Store, O: Effects>(
     out: &mut O,
 ) -> Step
     requires some { 0 < length (query_of query.old).frames }
-    requires turns { (query_of query.old).turns < 100 }
+    requires turns { (query_of query.old).turns < most_turns }
     ensures { TookRow O.acted S.cache look_row moment.entry out.old query.old desk.old out.new query.new desk.new result }
 {
     query.count();

@@ -11,6 +11,7 @@ ghost use Rattle.dc_look.specs.Chosen.{choice_at, choice_made, choice_from};
 use dc_desk::{Desk, Key, Moment};
 use dc_frames::Query;
 use dc_items::Items;
+use dc_limits::LONGEST_NAME;
 use dc_name::{Name, Suffix};
 use dc_store::Store;
 use dc_types::rtype;
@@ -45,7 +46,7 @@ fn uses_cached<S: Store>(
     if desk.forward || query.levels() > 2 {
         return false;
     }
-    zone.wire().len() < 255
+    zone.wire().len() < LONGEST_NAME
 }
 
 /// What is known of the servers of a zone: a configured one has its own (after djbdns' roots.c), and any other those that the

@@ -1,5 +1,6 @@
 //! The chosen zone is the frame's control zone, and its servers are next.
 ghost use Rattle.std.specs.Prelude.{◌≡◌, ◌<◌, ◌≤◌, ◌∷◌, ◌++◌, [], length, take};
+ghost use Rattle.dc_model.specs.Limits.{most_hosts};
 ghost use Rattle.dc_model.specs.Name.{lower};
 ghost use Rattle.dc_model.specs.Marks as marks;
 ghost use Rattle.dc_packet.specs.Data.{body_of};
@@ -98,7 +99,7 @@ fn host_of(item: Data<'_>) -> Name
 fn keep(query: &mut Query, host: Name, taken: usize) -> usize
     requires some { 0 < length (query_of query.old).frames }
     requires taken { taken ≡ length (top_of (query_of query.old)).hosts }
-    requires few { taken ≤ 16 }
+    requires few { taken ≤ most_hosts }
     ensures query { query_of query.new ≡ with_hosts (query_of query.old) (take 16 ((top_of (query_of query.old)).hosts ++ host ∷ [])) }
     ensures taken { result ≡ length (top_of (query_of query.new)).hosts }
 {

@@ -2,6 +2,7 @@
 ghost use Rattle.std.specs.Prelude.{◌≡◌, ◌+◌, ◌<◌, ◌≤◌, ◌++◌, true, false, length, drop, Some, [], IsTrue, IfOk};
 ghost use Rattle.std.specs.Borrow.{sem};
 ghost use Rattle.std.specs.Io.BufRead.{Rests};
+ghost use Rattle.dc_model.specs.Limits.{longest_datagram};
 ghost use Rattle.dc_model.specs.Message.{u16, message_of};
 ghost use Rattle.dc_model.specs.Reply as model;
 ghost use Rattle.dc_model.specs.ReadBack.{IsReply};
@@ -142,7 +143,7 @@ impl Reply {
     pub fn finish_udp(&mut self) -> &[u8]
         requires { IsTrue self.old.begun }
         ensures bytes { (r : model.Reply) → self.old ≡ draft_of r → result.now ≡ model.udp_bytes r }
-        ensures short { length result.now ≤ 512 }
+        ensures short { length result.now ≤ longest_datagram }
         ensures reads_back { (r : model.Reply) → self.old ≡ draft_of r → IsReply r
             → length (model.reply_bytes r) ≤ 512 → IsMessageOf r result.now }
         ensures cut_reads_back { (r : model.Reply) → self.old ≡ draft_of r → IsReply r

@@ -1,5 +1,6 @@
 //! Turns of a query.
 ghost use Rattle.std.specs.Prelude.{◌≡◌, ◌<◌, ◌^◌, length, IsNone, IsSome, Some};
+ghost use Rattle.dc_model.specs.Limits.{most_turns};
 ghost use Rattle.dc_packet.specs.Question.{asked};
 ghost use Rattle.dc_frames.specs.View.{query_of};
 ghost use Rattle.dc_transmit.specs.Attempts.{occasion};
@@ -125,7 +126,7 @@ pub fn heard<S: Store, O: Effects>(
     out: &mut O,
 ) -> Outcome
     requires frame { 0 < length (query_of query.old).frames }
-    requires turns { (query_of query.old).turns < 100 }
+    requires turns { (query_of query.old).turns < most_turns }
     requires packet { IsSome sender.old.accepted }
     requires idle { IsNone sender.old.attempt }
     requires links { desk.old.link < 2 ^ 60 }
@@ -156,7 +157,7 @@ pub fn failed<S: Store, O: Effects>(
     out: &mut O,
 ) -> Outcome
     requires frame { 0 < length (query_of query.old).frames }
-    requires turns { (query_of query.old).turns < 100 }
+    requires turns { (query_of query.old).turns < most_turns }
     requires idle { IsNone sender.old.attempt }
     requires links { desk.old.link < 2 ^ 60 }
     ensures turn { TookTurned O.acted out.old out.new (turn (setting_of desk.old.zones desk.old.forward desk.old.counts inbox.now.now draws.now) at_failed (at S.cache query.old desk.old)) (at S.cache query.new desk.new) desk.new.reply sender.new result }
@@ -181,7 +182,7 @@ pub fn event<S: Store, O: Effects>(
     out: &mut O,
 ) -> Outcome
     requires frame { 0 < length (query_of query.old).frames }
-    requires turns { (query_of query.old).turns < 100 }
+    requires turns { (query_of query.old).turns < most_turns }
     requires asking { IsSome sender.old.attempt }
     requires links { desk.old.link < 2 ^ 60 }
     ensures turn { TookTurned O.acted out.old out.new (turned_after (followed sender.old.attempt inbox.now (occasion inbox.now.now draws.now desk.old.link)) (setting_of desk.old.zones desk.old.forward desk.old.counts inbox.now.now draws.now) (at S.cache query.old desk.old)) (at S.cache query.new desk.new) desk.new.reply sender.new result }

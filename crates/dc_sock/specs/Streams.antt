@@ -3,6 +3,7 @@ use Rattle.std.specs.Prelude.{◌≡◌, ◌⊎◌, ◌≤◌, ◌<◌, ◌-◌,
 use Rattle.std.specs.List.{AllByRecursion}
 use Rattle.std.specs.declared.option.Option.{Option}
 use Rattle.std.specs.declared.option.Option.TheVariants.{None, Some}
+use Rattle.dc_model.specs.Limits.{most_seats}
 use Rattle.dc_model.specs.Event.{Kind, tick, request, datagram, link_up, link_bytes, link_down, bind_refused, conn_up, conn_bytes, conn_down, Action, reply, conn_reply, conn_close, udp, tcp, link_write, link_close, line}
 use Rattle.dc_event.specs.History.{Answer, Exchange, listened, asked, gathered, did}
 use Rattle.dc_event.specs.History as history
@@ -149,6 +150,6 @@ AllAnswered (x ∷ xs) (mine ∷ others) seats = PassedIsAnswered x mine (exchan
 
 -- The numbers at the places: there are 24 places, and as long as there is a next number, the number of each connection is below it.
 pub record IsNumbered (seats : List Seat) (next : ℕ) : Type 0 where
-  pub places : length seats ≡ 24
+  pub places : length seats ≡ most_seats
   pub limit : next ≤ 2 ^ 64 - 1
   pub below : next < 2 ^ 64 - 1 → (index : ℕ) (seat : Seat) (conn : Conn) → slice_get seats index ≡ Some seat → seat.conn ≡ Some conn → conn.number < next
