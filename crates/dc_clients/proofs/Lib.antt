@@ -1,4 +1,3 @@
-pub mod PermitLemmas
 pub mod Few
 pub mod TookLemmas
 pub mod ClockLemmas

@@ -9,7 +9,7 @@ use Rattle.dc_model.specs.Cache.{Cache}
 use Rattle.dc_model.specs.Event.{Event, Action, line}
 use Rattle.dc_model.specs.Line.{line_query, displaced}
 use Rattle.dc_model.specs.Message.{Request, request_of}
-use Rattle.dc_model.specs.Rules.{Permits, Rules, permitted}
+use Rattle.dc_model.specs.Rules.{Rules, permitted}
 use Rattle.dc_model.specs.Transmission.{Attempt, Progress, waiting, packet, failed, no_port, Occasion, After, after_event}
 use Rattle.dc_model.specs.Reply.{Reply}
 use Rattle.dc_reply.specs.Draft.{Draft, draft_of}
@@ -36,10 +36,8 @@ use Rattle.dc_active.specs.View.{active, attempt_or}
 use Rattle.dc_active.specs.declared.work.Work.{Work}
 use Rattle.dc_active.proofs.PickLemmas.{pick_at, pick_none}
 use Rattle.dc_clients.specs.Endings.{EndsWell}
-use Rattle.dc_clients.specs.Permits.{with_permits}
 use Rattle.dc_clients.specs.View.{machine_of, input_of, rules_of, AreBelow, Took}
 use Rattle.dc_clients.specs.declared.clients.Clients.{Clients}
-use Rattle.dc_clients.proofs.PermitLemmas.{turn-same}
 use Rattle.dc_clients.proofs.TookLemmas.{took_as, took_on}
 
 -- What a turn goes by
@@ -52,10 +50,10 @@ pub record AreCounted (client : Client) (m : Machine) (c : Counts) : Type 0 wher
 
 -- A turn at the desk goes by what one of the machine does, but for the permissions.
 setting_is : (i : Input) (client : Client) (m : Machine) (c : Counts) → AreCounted client m c
-    → desk.setting_of i.rules.zones i.rules.forward c i.event.now i.draws ≡ with_permits [] (setting_of i client m)
+    → desk.setting_of i.rules.zones i.rules.forward c i.event.now i.draws ≡ setting_of i client m
 unfolding desk.setting_of
 setting_is i client m c h =
-    let of : ℕ → ℕ → ℕ → Setting = λ a u t. record { rules = record { zones = i.rules.zones; permits = []; forward = i.rules.forward }; draws = i.draws; now = i.event.now; accepted = a; udp = u; tcp = t } in
+    let of : ℕ → ℕ → ℕ → Setting = λ a u t. record { zones = i.rules.zones; forward = i.rules.forward; draws = i.draws; now = i.event.now; accepted = a; udp = u; tcp = t } in
     ap (λ a. of a c.udp c.tcp) h.accepted
     ∙ ap (λ u. of m.accepted u c.tcp) h.udp
     ∙ ap (λ t. of m.accepted (length (udp_queries m.queries) + one_if (is_udp client)) t) h.tcp
@@ -63,22 +61,14 @@ setting_is i client m c h =
 -- So both come to the same.
 turn_is : (i : Input) (client : Client) (m : Machine) (c : Counts) → AreCounted client m c → (p : Point) (s : State)
     → turn_from (desk.setting_of i.rules.zones i.rules.forward c i.event.now i.draws) p s ≡ turn_from (setting_of i client m) p s
-turn_is i client m c h p s = ap (λ g. turn_from g p s) (setting_is i client m c h) ∙ turn-same [] (setting_of i client m) p s
+turn_is i client m c h p s = ap (λ g. turn_from g p s) (setting_is i client m c h)
 
--- What follows an event comes to the same with other permissions.
-follows_same : (pr : Progress) (ps : Permits) (g : Setting) (s : State) → resolve.turned_by pr (with_permits ps g) s ≡ resolve.turned_by pr g s
-unfolding resolve.turned_by
-follows_same (waiting a) ps g s = refl
-follows_same (packet p) ps g s = turn-same ps g (at_heard p) s
-follows_same failed ps g s = turn-same ps g at_failed s
-follows_same no_port ps g s = turn-same ps g at_no_port s
-
+-- And what follows an event.
 after_is : (f : After) (i : Input) (client : Client) (m : Machine) (c : Counts) → AreCounted client m c → (s : State)
     → turned_after f (desk.setting_of i.rules.zones i.rules.forward c i.event.now i.draws) s ≡ turned_after f (setting_of i client m) s
 unfolding turned_after
 after_is f i client m c h s =
     ap (λ g. before [] f.actions (resolve.turned_by f.progress g (with_links f.links s))) (setting_is i client m c h)
-    ∙ ap (before [] f.actions) (follows_same f.progress [] (setting_of i client m) (with_links f.links s))
 
 -- Good queries
 
@@ -300,7 +290,7 @@ module _ {S : Type 0} where
       → c'.permit ≡ c.permit → rules_of c' ≡ rules_of c
   unfolding desk.setting_of
   rules_left c c' now draws h k =
-      ap (λ (g : Setting). let r : Rules = record { zones = g.rules.zones; permits = c'.permit; forward = g.rules.forward } in r) h
+      ap (λ (g : Setting). let r : Rules = record { zones = g.zones; permits = c'.permit; forward = g.forward } in r) h
       ∙ ap (λ p. let r : Rules = record { zones = c.desk.zones; permits = p; forward = c.desk.forward } in r) k
 
   -- A turn at the desk left the clients so.

@@ -1,4 +1,3 @@
-pub mod Permits
 pub mod View
 pub mod Endings
 pub mod Due

@@ -15,7 +15,6 @@ use Rattle.dc_desk.specs.declared.desk.Desk.{Desk}
 use Rattle.dc_desk.specs.declared.moment.Moment.{Moment}
 use Rattle.dc_desk.specs.declared.outcome.Cause.{Cause}
 use Rattle.dc_desk.specs.declared.outcome.Cause.TheVariants as cause
-use Rattle.dc_desk.specs.declared.outcome.Outcome.{Outcome}
 use Rattle.dc_desk.specs.declared.outcome.Outcome.TheVariants.{Waiting, Replied, Dropped}
 use Rattle.dc_desk.specs.declared.step.Point.{Point}
 use Rattle.dc_desk.specs.declared.step.Point.TheVariants.{Look, Next, Down, Servfail, NxDomain, Alias}

@@ -1,5 +1,5 @@
 -- A desk and a query on it, as the turn of the query sees them.
-use Rattle.std.specs.Prelude.{ℕ, Bool, List, []}
+use Rattle.std.specs.Prelude.{ℕ, Bool, List}
 use Rattle.dc_model.specs.Cache.{Cache}
 use Rattle.dc_model.specs.Rules.{Zones}
 use Rattle.dc_machine.specs.Turn.{Setting, State}
@@ -9,10 +9,11 @@ use Rattle.dc_desk.specs.declared.desk.Counts.{Counts}
 use Rattle.dc_desk.specs.declared.desk.Desk.{Desk}
 use Rattle.dc_desk.specs.declared.moment.Moment.{Moment}
 
--- What a turn goes by. It looks at no permissions.
+-- What a turn goes by.
 unfoldable pub setting_of : Zones → Bool → Counts → ℕ → List ℕ → Setting
 setting_of zones forward counts now draws = record {
-  rules = record { zones = zones; permits = []; forward = forward };
+  zones = zones;
+  forward = forward;
   draws = draws;
   now = now;
   accepted = counts.accepted;

@@ -49,9 +49,9 @@ soa_there p t f k h a = there p (message_in p) f.soa k.soa (message_of-IsMessage
 
 pub message_is : (o : Option Message) (m : Message) (a : Accepted) (g : Setting) (s : State) (k : Marks) (c : marks.Class)
     → o ≡ Some m → marks_of (name_of s.query) (wanted_of s.query) m ≡ k → c ≡ class_of (top_of s.query).control (rcode m) k
-    → message_row o a g s ≡ first (puts_given (kept_of c (given_of g.rules.zones (top_of s.query).control a.server m)))
-    (map line (lines_given (kept_of c (given_of g.rules.zones (top_of s.query).control a.server m))))
-    (class_row c k m a g (after_puts (puts_given (kept_of c (given_of g.rules.zones (top_of s.query).control a.server m))) g s))
+    → message_row o a g s ≡ first (puts_given (kept_of c (given_of g.zones (top_of s.query).control a.server m)))
+    (map line (lines_given (kept_of c (given_of g.zones (top_of s.query).control a.server m))))
+    (class_row c k m a g (after_puts (puts_given (kept_of c (given_of g.zones (top_of s.query).control a.server m))) g s))
 unfolding message_row marked_row kept_row
 message_is o m a g s k c e f h =
     ap (λ (x : Option Message). message_row x a g s) e

@@ -29,19 +29,19 @@ puts_no g k s n c h = sym (ap (λ (b : Bool). all_put (if b then nothing_put g k
 
 pub lines_no : (g : Setting) (k : Marks) (a : Accepted) (s : State) → has_no_data s.query k ≡ false → [] ≡ nodata_lines g k a s
 unfolding nodata_lines
-lines_no g k a s h = sym (ap (λ (b : Bool). if b then line (line_nodata a.server (negative_ttl g.rules.zones.rule k.soa) (wanted_of s.query) (name_of s.query)) ∷ [] else []) h)
+lines_no g k a s h = sym (ap (λ (b : Bool). if b then line (line_nodata a.server (negative_ttl g.zones.rule k.soa) (wanted_of s.query) (name_of s.query)) ∷ [] else []) h)
 
 -- Missing data is remembered
 
 pub puts_yes : (g : Setting) (k : Marks) (s : State) (n : ℕ) (c : Cache) → has_no_data s.query k ≡ true
-    → put (key_of (wanted_of s.query) (name_of s.query)) [] (negative_ttl g.rules.zones.rule k.soa) n c ≡ all_put (nodata_puts g k s) n c
+    → put (key_of (wanted_of s.query) (name_of s.query)) [] (negative_ttl g.zones.rule k.soa) n c ≡ all_put (nodata_puts g k s) n c
 unfolding nodata_puts all_put
 puts_yes g k s n c h = sym (ap (λ (b : Bool). all_put (if b then nothing_put g k (wanted_of s.query) s.query ∷ [] else []) n c) h)
 
 pub lines_yes : (g : Setting) (k : Marks) (a : Accepted) (s : State) → has_no_data s.query k ≡ true
-    → line (line_nodata a.server (negative_ttl g.rules.zones.rule k.soa) (wanted_of s.query) (name_of s.query)) ∷ [] ≡ nodata_lines g k a s
+    → line (line_nodata a.server (negative_ttl g.zones.rule k.soa) (wanted_of s.query) (name_of s.query)) ∷ [] ≡ nodata_lines g k a s
 unfolding nodata_lines
-lines_yes g k a s h = sym (ap (λ (b : Bool). if b then line (line_nodata a.server (negative_ttl g.rules.zones.rule k.soa) (wanted_of s.query) (name_of s.query)) ∷ [] else []) h)
+lines_yes g k a s h = sym (ap (λ (b : Bool). if b then line (line_nodata a.server (negative_ttl g.zones.rule k.soa) (wanted_of s.query) (name_of s.query)) ∷ [] else []) h)
 
 -- The rows behind what is told
 

@@ -83,7 +83,7 @@ second-is d m now e = sym e
 
 pub first-is : {S : Type 0} (cache : S → Cache) (q : frames.Query) (d : Desk S) (m : Moment) (rule : Rule) (kinds : List ℕ) (o : Option Known) →
     rule ≡ d.zones.rule → kinds ≡ kinds_known rule → o ≡ first_known (setting_at d m) (at cache q d) kinds →
-    first_known (setting_at d m) (at cache q d) (kinds_known (setting_at d m).rules.zones.rule) ≡ o
+    first_known (setting_at d m) (at cache q d) (kinds_known (setting_at d m).zones.rule) ≡ o
 unfolding setting_of
 first-is cache q d m rule kinds o e k h = ap (first_known (setting_at d m) (at cache q d)) (sym (k ∙ ap kinds_known e)) ∙ sym h
 
@@ -122,11 +122,11 @@ cname-leads g s a e = rw e refl
 
 -- Records of the types that are tried
 
-pub known-none : (g : Setting) (s : State) → first_known g s (kinds_known g.rules.zones.rule) ≡ None → known_row g s ≡ other_row g s
+pub known-none : (g : Setting) (s : State) → first_known g s (kinds_known g.zones.rule) ≡ None → known_row g s ≡ other_row g s
 unfolding known_row known_by
 known-none g s e = ap (λ x. known_by x g s) e
 
-pub known-answers : (g : Setting) (s : State) (k : Known) → first_known g s (kinds_known g.rules.zones.rule) ≡ Some k → is_lowest s.query ≡ true →
+pub known-answers : (g : Setting) (s : State) (k : Known) → first_known g s (kinds_known g.zones.rule) ≡ Some k → is_lowest s.query ≡ true →
     known_row g s ≡ reply_row (reply_of s.query (cached_answers g s.query k.kind k.hit)) (line (line_cached k.kind (name_of s.query)) ∷ []) s
 unfolding known_row known_by
 known-answers g s k e l = ap (λ x. known_by x g s) e ∙ rw l refl
@@ -194,40 +194,40 @@ unfolding known_row known_by address_known
 known-gives g s h addresses q l e i k =
     let w : wanted_of s.query ≡ kind_a = wanted-above s.query l in
     let is : map bytes_of (items g kind_a h) ≡ addresses = ap (map bytes_of) (sym i) ∙ map-bytes addresses in
-    ap (λ x. known_by x g s) (first-above g.rules.zones.rule g s (Some h) w e) ∙ rw (l, is, k) refl
+    ap (λ x. known_by x g s) (first-above g.zones.rule g s (Some h) w e) ∙ rw (l, is, k) refl
 
 pub known-above-none : (g : Setting) (s : State) → is_lowest s.query ≡ false → known g s kind_a (name_of s.query) ≡ None → known_row g s ≡ zone_row g s
 unfolding known_row known_by other_row is_other
 known-above-none g s l e =
     let w : wanted_of s.query ≡ kind_a = wanted-above s.query l in
-    ap (λ x. known_by x g s) (first-above g.rules.zones.rule g s None w e) ∙ rw w refl
+    ap (λ x. known_by x g s) (first-above g.zones.rule g s None w e) ∙ rw w refl
 
 -- Records of other types
 
 pub other-rule : {S : Type 0} (d : Desk S) (m : Moment) (rule : Rule) (kind : ℕ) (b : Bool) → rule ≡ d.zones.rule → b ≡ is_other rule kind →
-    is_other (setting_at d m).rules.zones.rule kind ≡ b
+    is_other (setting_at d m).zones.rule kind ≡ b
 unfolding setting_of
 other-rule d m rule kind b e h = ap (λ r. is_other r kind) (sym e) ∙ sym h
 
-pub other-not : (g : Setting) (s : State) (kind : ℕ) → kind ≡ wanted_of s.query → is_other g.rules.zones.rule kind ≡ false → other_row g s ≡ zone_row g s
+pub other-not : (g : Setting) (s : State) (kind : ℕ) → kind ≡ wanted_of s.query → is_other g.zones.rule kind ≡ false → other_row g s ≡ zone_row g s
 unfolding other_row
 other-not g s kind w e =
-    let k : is_other g.rules.zones.rule (wanted_of s.query) ≡ false = ap (is_other g.rules.zones.rule) (sym w) ∙ e in
+    let k : is_other g.zones.rule (wanted_of s.query) ≡ false = ap (is_other g.zones.rule) (sym w) ∙ e in
     rw k refl
 
-pub other-by : (g : Setting) (s : State) (kind : ℕ) (o : Option Hit) → kind ≡ wanted_of s.query → is_other g.rules.zones.rule kind ≡ true →
+pub other-by : (g : Setting) (s : State) (kind : ℕ) (o : Option Hit) → kind ≡ wanted_of s.query → is_other g.zones.rule kind ≡ true →
     known g s kind (name_of s.query) ≡ o → other_row g s ≡ other_by o g s
 unfolding other_row
 other-by g s kind o w e h =
-    let k : is_other g.rules.zones.rule (wanted_of s.query) ≡ true = ap (is_other g.rules.zones.rule) (sym w) ∙ e in
+    let k : is_other g.zones.rule (wanted_of s.query) ≡ true = ap (is_other g.zones.rule) (sym w) ∙ e in
     rw k (ap (λ x. other_by x g s) (ap (λ x. known g s x (name_of s.query)) (sym w) ∙ h))
 
-pub other-none : (g : Setting) (s : State) (kind : ℕ) → kind ≡ wanted_of s.query → is_other g.rules.zones.rule kind ≡ true →
+pub other-none : (g : Setting) (s : State) (kind : ℕ) → kind ≡ wanted_of s.query → is_other g.zones.rule kind ≡ true →
     known g s kind (name_of s.query) ≡ None → other_row g s ≡ zone_row g s
 unfolding other_by
 other-none g s kind w e h = other-by g s kind None w e h
 
-pub other-here : (g : Setting) (s : State) (h : Hit) (kind : ℕ) → kind ≡ wanted_of s.query → is_other g.rules.zones.rule kind ≡ true →
+pub other-here : (g : Setting) (s : State) (h : Hit) (kind : ℕ) → kind ≡ wanted_of s.query → is_other g.zones.rule kind ≡ true →
     known g s kind (name_of s.query) ≡ Some h →
     other_row g s ≡ reply_row (reply_of s.query (cached_answers g s.query kind h)) (line (line_cached kind (name_of s.query)) ∷ []) s
 unfolding other_by

@@ -3,7 +3,7 @@ use Rattle.std.proofs.Common.{ℕ, ◌+◌, Bool, true, false, cond, ltb, leb, �
 use Rattle.std.specs.Prelude.{nat_eq}
 use Rattle.dc_model.specs.Message.{Request, request_of}
 use Rattle.dc_model.specs.Event.{Event, Kind, tick, request, datagram, link_up, link_bytes, link_down, bind_refused, conn_up, conn_bytes, conn_down}
-use Rattle.dc_model.specs.Rules.{Rules}
+use Rattle.dc_model.specs.Rules.{Rules, Zones}
 use Rattle.dc_model.specs.Line.{CloseCause, close_closed, close_displaced, close_long, close_proto, close_timeout}
 use Rattle.dc_model.specs.Reply.{Reply}
 use Rattle.dc_model.specs.Transmission.{Progress, waiting, packet, failed, no_port, after_event}
@@ -27,8 +27,8 @@ picked_it P test as' p k h =
     all_it P p.it j.front j.back (subst (AllOf P) j.whole h)
 
 -- Of rules that are Z, every turn keeps Q of its query, and a new query has it.
-module _ (Z : Rules → Type 0) (Q : Query → Type 0) (new : (r : Request) → Q (query_for r))
-    (keep : (g : Setting) (p : Point) (s : State) → Z g.rules → Q s.query → Q (turn g p s).state.query) where
+module _ (Z : Zones → Type 0) (Q : Query → Type 0) (new : (r : Request) → Q (query_for r))
+    (keep : (g : Setting) (p : Point) (s : State) → Z g.zones → Q s.query → Q (turn g p s).state.query) where
   abbrev Each : Machine → Type 0
   Each m = AllOf (λ (a : Active). Q a.query) m.queries
 
@@ -66,25 +66,25 @@ module _ (Z : Rules → Type 0) (Q : Query → Type 0) (new : (r : Request) → 
   settled_each (replied r) client serial now q m j h = replied_each client serial now r m h
   settled_each (dropped cause) client serial now q m j h = dropped_each client (record m { dropped = m.dropped + 1 }) h
 
-  turned_each : (i : Input) (p : Point) (client : Client) (serial : ℕ) (q : Query) (m : Machine) → Z i.rules → Q q → Each m → Each (turned i p client serial q m).machine
+  turned_each : (i : Input) (p : Point) (client : Client) (serial : ℕ) (q : Query) (m : Machine) → Z i.rules.zones → Q q → Each m → Each (turned i p client serial q m).machine
   unfolding turned turned_by
   turned_each i p client serial q m z j h =
       let t = turn (setting_of i client m) p (record { query = q; cache = m.cache; links = m.links }) in
       settled_each (outcome_or t.outcome) client serial i.event.now t.state.query (record m { cache = t.state.cache; links = t.state.links })
       (keep (setting_of i client m) p (record { query = q; cache = m.cache; links = m.links }) z j) h
 
-  begun_each : (i : Input) (client : Client) (addr : List ℕ) (port : ℕ) (r : Request) (m : Machine) → Z i.rules → Each m → Each (begun i client addr port r m).machine
+  begun_each : (i : Input) (client : Client) (addr : List ℕ) (port : ℕ) (r : Request) (m : Machine) → Z i.rules.zones → Each m → Each (begun i client addr port r m).machine
   unfolding begun
   begun_each i client addr port r m z h = turned_each i at_begin client (m.accepted + 1) (query_for r) (record m { accepted = m.accepted + 1 }) z (new r) h
 
-  progressed_each : (p : Progress) (i : Input) (q : Active) (m : Machine) → Z i.rules → Q q.query → Each m → Each (progressed p i q m).machine
+  progressed_each : (p : Progress) (i : Input) (q : Active) (m : Machine) → Z i.rules.zones → Q q.query → Each m → Each (progressed p i q m).machine
   unfolding progressed
   progressed_each (waiting a) i q m z j h = all_with (λ (b : Active). Q b.query) (record q { attempt = a }) m.queries j h
   progressed_each (packet p) i q m z j h = turned_each i (at_heard p) q.client q.serial q.query m z j h
   progressed_each failed i q m z j h = turned_each i at_failed q.client q.serial q.query m z j h
   progressed_each no_port i q m z j h = turned_each i at_no_port q.client q.serial q.query m z j h
 
-  given_each : (test : Active → Bool) (o : Option (Picked Active)) (i : Input) (m : Machine) → Z i.rules → IfPicked test m.queries o → Each m → Each (given_to o i m).machine
+  given_each : (test : Active → Bool) (o : Option (Picked Active)) (i : Input) (m : Machine) → Z i.rules.zones → IfPicked test m.queries o → Each m → Each (given_to o i m).machine
   unfolding given_to progressed_by
   given_each test None i m z k h = h
   given_each test (Some p) i m z k h =
@@ -101,21 +101,21 @@ module _ (Z : Rules → Type 0) (Q : Query → Type 0) (new : (r : Request) → 
   unfolding with_room
   room_each m h = each_cond (leb 200 (length (udp_queries m.queries))) _ _ (displaced_each (λ a. is_udp a.client) _ m (pick_is (λ a. is_udp a.client) m.queries) h) h
 
-  request_by_each : (o : Option Request) (i : Input) (m : Machine) → Z i.rules → Each m → Each (request_by o i m).machine
+  request_by_each : (o : Option Request) (i : Input) (m : Machine) → Z i.rules.zones → Each m → Each (request_by o i m).machine
   unfolding request_by accepted_udp
   request_by_each None i m z h = h
   request_by_each (Some r) i m z h = begun_each i (by_udp i.event.addr i.event.port) i.event.addr i.event.port r (with_room m).machine z (room_each m h)
 
-  request_each : (i : Input) (m : Machine) → Z i.rules → Each m → Each (request_step i m).machine
+  request_each : (i : Input) (m : Machine) → Z i.rules.zones → Each m → Each (request_step i m).machine
   unfolding request_step
   request_each i m z h = each_cond (ltb 1023 (length i.event.bytes) || is_refused i) _ _ h (request_by_each (request_of i.event.bytes) i m z h)
 
-  asked_by_each : (o : Option Request) (i : Input) (c : Connection) (m : Machine) → Z i.rules → Each m → Each (asked_by o i c m).machine
+  asked_by_each : (o : Option Request) (i : Input) (c : Connection) (m : Machine) → Z i.rules.zones → Each m → Each (asked_by o i c m).machine
   unfolding asked_by
   asked_by_each None i c m z h = closed_each close_proto c m h
   asked_by_each (Some r) i c m z h = begun_each i (by_tcp c.number) c.addr c.port r m z h
 
-  asked_each : (i : Input) (c : Connection) (m : Machine) → Z i.rules → Each m → Each (asked i c m).machine
+  asked_each : (i : Input) (c : Connection) (m : Machine) → Z i.rules.zones → Each m → Each (asked i c m).machine
   unfolding asked
   asked_each i c m z h = asked_by_each (request_of (first_message c.gathered)) i c _ z h
 
@@ -133,11 +133,11 @@ module _ (Z : Rules → Type 0) (Q : Query → Type 0) (new : (r : Request) → 
   conn_up_each (Some c) i m h = h
   conn_up_each None i m h = each_cond (is_refused i) _ _ h (place_each m h)
 
-  gathered_each : (c : Connection) (i : Input) (m : Machine) → Z i.rules → Each m → Each (gathered_by c i m).machine
+  gathered_each : (c : Connection) (i : Input) (m : Machine) → Z i.rules.zones → Each m → Each (gathered_by c i m).machine
   unfolding gathered_by
   gathered_each c i m z h = each_cond (is_ready m c) _ _ (asked_each i c m z h) h
 
-  conn_bytes_each : (o : Option Connection) (i : Input) (m : Machine) → Z i.rules → Each m → Each (conn_bytes_by o i m).machine
+  conn_bytes_each : (o : Option Connection) (i : Input) (m : Machine) → Z i.rules.zones → Each m → Each (conn_bytes_by o i m).machine
   unfolding conn_bytes_by
   conn_bytes_each None i m z h = h
   conn_bytes_each (Some c) i m z h = each_cond (ltb 65537 (length c.gathered + length i.event.bytes)) _ _ (closed_each close_long c m h)
@@ -148,26 +148,26 @@ module _ (Z : Rules → Type 0) (Q : Query → Type 0) (new : (r : Request) → 
   conn_down_each None m h = h
   conn_down_each (Some c) m h = closed_each close_closed c m h
 
-  due_step_each : (d : Holder) (i : Input) (m : Machine) → Z i.rules → Each m → Each (due_step d i m).machine
+  due_step_each : (d : Holder) (i : Input) (m : Machine) → Z i.rules.zones → Each m → Each (due_step d i m).machine
   unfolding due_step
   due_step_each (of_query a) i m z h = given_each (λ b. nat_eq b.serial a.serial) _ i m z (pick_is (λ b. nat_eq b.serial a.serial) m.queries) h
   due_step_each (of_connection c) i m z h = closed_each close_timeout c m h
 
-  due_each : (o : Option Holder) (i : Input) (m : Machine) → Z i.rules → Each m → Each (due_by o i m).machine
+  due_each : (o : Option Holder) (i : Input) (m : Machine) → Z i.rules.zones → Each m → Each (due_by o i m).machine
   unfolding due_by
   due_each None i m z h = h
   due_each (Some d) i m z h = each_cond (leb (deadline_of d) i.event.now) _ _ (due_step_each d i m z h) h
 
-  tick_each : (o : Option Connection) (i : Input) (m : Machine) → Z i.rules → Each m → Each (tick_by o i m).machine
+  tick_each : (o : Option Connection) (i : Input) (m : Machine) → Z i.rules.zones → Each m → Each (tick_by o i m).machine
   unfolding tick_by
   tick_each (Some c) i m z h = asked_each i c m z h
   tick_each None i m z h = due_each (earliest (holders m)) i m z h
 
-  link_each : (i : Input) (m : Machine) → Z i.rules → Each m → Each (link_step i m).machine
+  link_each : (i : Input) (m : Machine) → Z i.rules.zones → Each m → Each (link_step i m).machine
   unfolding link_step
   link_each i m z h = given_each (λ a. nat_eq a.attempt.link i.event.id) _ i m z (pick_is (λ a. nat_eq a.attempt.link i.event.id) m.queries) h
 
-  step_by_each : (k : Kind) (i : Input) (m : Machine) → Z i.rules → Each m → Each (step_by k i m).machine
+  step_by_each : (k : Kind) (i : Input) (m : Machine) → Z i.rules.zones → Each m → Each (step_by k i m).machine
   unfolding step_by
   step_by_each tick i m z h = tick_each (first_ready m) i m z h
   step_by_each request i m z h = request_each i m z h
@@ -181,12 +181,12 @@ module _ (Z : Rules → Type 0) (Q : Query → Type 0) (new : (r : Request) → 
   step_by_each conn_down i m z h = conn_down_each (connection i.event.id m) m h
 
   -- every step keeps it
-  pub step_each : (rules : Rules) (m : Machine) (e : Event) (draws : List ℕ) → Z rules → Each m → Each (step rules m e draws).machine
+  pub step_each : (rules : Rules) (m : Machine) (e : Event) (draws : List ℕ) → Z rules.zones → Each m → Each (step rules m e draws).machine
   unfolding step
   step_each rules m e draws z h = step_by_each e.kind (record { rules = rules; event = e; draws = draws }) m z h
 
   -- and so does every run
-  pub taken_each : (rules : Rules) (draws : ℕ → List ℕ) (n : ℕ) (m : Machine) (es : List Event) → Z rules → Each m → Each (last_of m (taken_from rules draws n m es))
+  pub taken_each : (rules : Rules) (draws : ℕ → List ℕ) (n : ℕ) (m : Machine) (es : List Event) → Z rules.zones → Each m → Each (last_of m (taken_from rules draws n m es))
   unfolding last_of taken_from
   taken_each rules draws n m [] z h = h
   taken_each rules draws n m (e ∷ es) z h = taken_each rules draws (n + 1) (step rules m e (draws n)).machine es z (step_each rules m e (draws n) z h)

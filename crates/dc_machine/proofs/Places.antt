@@ -107,7 +107,7 @@ items_four (suc n) rule b i = piece_four b i (has_bytes b i 4) refl _ (λ at. it
 
 cached_four : (g : Setting) (h : Hit) → AllAddresses (map bytes_of (items g kind_a h))
 unfolding items_of
-cached_four g h = items_four (length h.body) g.rules.zones.rule h.body 0
+cached_four g h = items_four (length h.body) g.zones.rule h.body 0
 
 -- where the entry that was found is one, as an address is wanted,
 
@@ -233,25 +233,25 @@ unfolding IsChoice
 choice_placed-or None c h k = k
 choice_placed-or (Some d) c h k = h
 
-choice_placed : (g : Setting) (s : State) (zones : List Name) → ZonesHavePlaces g.rules → ArePlaces (choice_of g s zones).places
+choice_placed : (g : Setting) (s : State) (zones : List Name) → ZonesHavePlaces g.zones → ArePlaces (choice_of g s zones).places
 unfolding choice_of
 choice_placed g s [] z = empty_ArePlaces
-choice_placed g s (zone ∷ zones) z = choice_placed-or _ _ (choice_placed-by _ g s zone (zones_places g.rules.zones.configured zone z)) (choice_placed g s zones z)
+choice_placed g s (zone ∷ zones) z = choice_placed-or _ _ (choice_placed-by _ g s zone (zones_places g.zones.configured zone z)) (choice_placed g s zones z)
 
 -- Look
 
-zone_placed : (g : Setting) (s : State) → ZonesHavePlaces g.rules → HavePlaces s.query.frames → Placed (zone_row g s)
+zone_placed : (g : Setting) (s : State) → ZonesHavePlaces g.zones → HavePlaces s.query.frames → Placed (zone_row g s)
 unfolding zone_row chosen_row
 zone_placed g s z h = with_placed s.query.frames _ (choice_placed g s (suffixes (name_of s.query)) z) h
 
-other_placed-by : (o : Option Hit) (g : Setting) (s : State) → ZonesHavePlaces g.rules → HavePlaces s.query.frames → Placed (other_by o g s)
+other_placed-by : (o : Option Hit) (g : Setting) (s : State) → ZonesHavePlaces g.zones → HavePlaces s.query.frames → Placed (other_by o g s)
 unfolding other_by
 other_placed-by None g s z h = zone_placed g s z h
 other_placed-by (Some x) g s z h = reply_placed _ _ s h
 
-other_placed : (g : Setting) (s : State) → ZonesHavePlaces g.rules → HavePlaces s.query.frames → Placed (other_row g s)
+other_placed : (g : Setting) (s : State) → ZonesHavePlaces g.zones → HavePlaces s.query.frames → Placed (other_row g s)
 unfolding other_row
-other_placed g s z h = placed_cond (is_other g.rules.zones.rule (wanted_of s.query)) _ _ (λ _. other_placed-by _ g s z h) (λ _. zone_placed g s z h)
+other_placed g s z h = placed_cond (is_other g.zones.rule (wanted_of s.query)) _ _ (λ _. other_placed-by _ g s z h) (λ _. zone_placed g s z h)
 
 wanted_above : (q : Query) → is_lowest q ≡ false → wanted_of q ≡ kind_a
 wanted_above q e = rw e refl
@@ -262,38 +262,38 @@ known_four g s k e h =
     let w : is_wanted kind_a k.kind ≡ true = subst (λ n. is_wanted n k.kind ≡ true) (wanted_above s.query e) h in
     subst (λ n. AllAddresses (map bytes_of (items g n k.hit))) (sym (address_kind k.kind w)) (cached_four g k.hit)
 
-known_placed-by : (o : Option Known) (g : Setting) (s : State) → IsKnown (wanted_of s.query) o → ZonesHavePlaces g.rules → HavePlaces s.query.frames → Placed (known_by o g s)
+known_placed-by : (o : Option Known) (g : Setting) (s : State) → IsKnown (wanted_of s.query) o → ZonesHavePlaces g.zones → HavePlaces s.query.frames → Placed (known_by o g s)
 unfolding known_by
 known_placed-by None g s k z h = other_placed g s z h
 known_placed-by (Some x) g s k z h = placed_cond (is_lowest s.query) _ _ (λ _. reply_placed _ _ s h)
     (λ e. addresses_placed (map bytes_of (items g x.kind x.hit)) s.query (known_four g s x e k) h)
 
-known_placed : (g : Setting) (s : State) → ZonesHavePlaces g.rules → HavePlaces s.query.frames → Placed (known_row g s)
+known_placed : (g : Setting) (s : State) → ZonesHavePlaces g.zones → HavePlaces s.query.frames → Placed (known_row g s)
 unfolding known_row
-known_placed g s z h = known_placed-by _ g s (first_is_known g s (kinds_known g.rules.zones.rule)) z h
+known_placed g s z h = known_placed-by _ g s (first_is_known g s (kinds_known g.zones.rule)) z h
 
-cname_placed : (o : Option Alias) (g : Setting) (s : State) → ZonesHavePlaces g.rules → HavePlaces s.query.frames → Placed (cname_by o g s)
+cname_placed : (o : Option Alias) (g : Setting) (s : State) → ZonesHavePlaces g.zones → HavePlaces s.query.frames → Placed (cname_by o g s)
 unfolding cname_by
 cname_placed None g s z h = known_placed g s z h
 cname_placed (Some a) g s z h = placed_cond (is_wanted (wanted_of s.query) kind_cname) _ _ (λ _. reply_placed _ _ s h) (λ _. h)
 
-missing_placed : (o : Option Hit) (g : Setting) (s : State) → ZonesHavePlaces g.rules → HavePlaces s.query.frames → Placed (missing_by o g s)
+missing_placed : (o : Option Hit) (g : Setting) (s : State) → ZonesHavePlaces g.zones → HavePlaces s.query.frames → Placed (missing_by o g s)
 unfolding missing_by cname_row
 missing_placed None g s z h = cname_placed _ g s z h
 missing_placed (Some x) g s z h = h
 
-loopback_placed : (g : Setting) (s : State) → ZonesHavePlaces g.rules → HavePlaces s.query.frames → Placed (loopback_row g s)
+loopback_placed : (g : Setting) (s : State) → ZonesHavePlaces g.zones → HavePlaces s.query.frames → Placed (loopback_row g s)
 unfolding loopback_row missing_row
 loopback_placed g s z h = placed_cond (same (name_of s.query) (reverse_name loopback)) _ _
     (λ _. placed_cond (is_lowest s.query) _ _ (λ _. reply_placed _ _ s h) (λ _. h))
     (λ _. missing_placed _ g s z h)
 
-rules_placed : (o : Option (List ℕ)) (g : Setting) (s : State) → IsFour o → ZonesHavePlaces g.rules → HavePlaces s.query.frames → Placed (built_in_by o g s)
+rules_placed : (o : Option (List ℕ)) (g : Setting) (s : State) → IsFour o → ZonesHavePlaces g.zones → HavePlaces s.query.frames → Placed (built_in_by o g s)
 unfolding built_in_by
 rules_placed None g s f z h = loopback_placed g s z h
 rules_placed (Some a) g s f z h = placed_cond (is_lowest s.query) _ _ (λ _. reply_placed _ _ s h) (λ _. address_placed s.query a (some_four a f) h)
 
-look_placed : (g : Setting) (s : State) → ZonesHavePlaces g.rules → HavePlaces s.query.frames → Placed (look_row g s)
+look_placed : (g : Setting) (s : State) → ZonesHavePlaces g.zones → HavePlaces s.query.frames → Placed (look_row g s)
 unfolding look_row rules_row
 look_placed g s z h = placed_cond (is_last_turn s) _ _ (λ _. h) (λ _. rules_placed _ g (one_more s) (built_four (name_of s.query)) z h)
 
@@ -354,7 +354,7 @@ nxdomain_placed : (s : State) → HavePlaces s.query.frames → Placed (nxdomain
 unfolding nxdomain_row
 nxdomain_placed s h = placed_cond (is_lowest s.query) _ _ (λ _. reply_placed _ _ s h) (λ _. h)
 
-row_placed : (g : Setting) (p : Point) (s : State) → ZonesHavePlaces g.rules → HavePlaces s.query.frames → Placed (row g p s)
+row_placed : (g : Setting) (p : Point) (s : State) → ZonesHavePlaces g.zones → HavePlaces s.query.frames → Placed (row g p s)
 unfolding row next_row down_row failed_row
 row_placed g at_begin s z h = begin_placed s h
 row_placed g at_look s z h = look_placed g s z h
@@ -373,11 +373,11 @@ unfolding onward
 onward_placed (go p) r s further more h = more p s h
 onward_placed (end o) r s further more h = h
 
-rows_placed : (g : Setting) (n : ℕ) (p : Point) (s : State) → ZonesHavePlaces g.rules → HavePlaces s.query.frames → HavePlaces (rows g n p s).state.query.frames
+rows_placed : (g : Setting) (n : ℕ) (p : Point) (s : State) → ZonesHavePlaces g.zones → HavePlaces s.query.frames → HavePlaces (rows g n p s).state.query.frames
 unfolding rows state_after
 rows_placed g zero p s z h = h
 rows_placed g (suc n) p s z h = onward_placed (row g p s).following (row g p s) (state_after g s (row g p s)) (rows g n) (λ q t k. rows_placed g n q t z k) (row_placed g p s z h)
 
-pub turn_placed : (g : Setting) (p : Point) (s : State) → ZonesHavePlaces g.rules → HavePlaces s.query.frames → HavePlaces (turn g p s).state.query.frames
+pub turn_placed : (g : Setting) (p : Point) (s : State) → ZonesHavePlaces g.zones → HavePlaces s.query.frames → HavePlaces (turn g p s).state.query.frames
 unfolding turn
 turn_placed g p s z h = rows_placed g 4000 p s z h

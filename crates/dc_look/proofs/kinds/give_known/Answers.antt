@@ -17,4 +17,4 @@ returns g c =
     let text : c.text.result.now ≡ line_cached 1 (name_of (query_of c.args.query.now)) = c.text.ensures.bytes ∙ (c.line_cached.ensures ∙ ap (line_cached 1) c.name.ensures) in
     took_goes (known-gives (setting_at c.args.desk.now c.args.moment) (at g.S.Store.cache c.args.query.now c.args.desk.now) (hit_value c.in-Some.hit) c.new-addresses.result (query_of c.add_addresses.new.query) c.requires.above
     (known-is g.S.Store.cache c.args.query.now c.args.desk.now c.args.moment 1 c.second.result (Some (hit_value c.in-Some.hit)) c.second.ensures (c.in-Some.ensures.hit (name_of (query_of c.args.query.now)) c.requires.key))
-    (c.new-addresses.ensures.items (setting_at c.args.desk.now c.args.moment).rules.zones.rule) c.add_addresses.ensures) (rw text at c.line.ensures)
+    (c.new-addresses.ensures.items (setting_at c.args.desk.now c.args.moment).zones.rule) c.add_addresses.ensures) (rw text at c.line.ensures)

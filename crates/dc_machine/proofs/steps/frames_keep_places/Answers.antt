@@ -1,5 +1,5 @@
 use Rattle.dc_model.specs.Message.{Request}
-use Rattle.dc_model.specs.Rules.{Rules}
+use Rattle.dc_model.specs.Rules.{Rules, Zones}
 use Rattle.dc_machine.specs.Query.{Query, query_for}
 use Rattle.dc_machine.specs.Kept.{AllOf, HavePlaces, ZonesHavePlaces}
 use Rattle.dc_machine.specs.Run.{opening, run}
@@ -13,9 +13,9 @@ no_frames r = tt
 
 pub returns-clause-step : goal.returns-clause-step
 returns-clause-step c rules m e draws z h =
-    step_each (λ (x : Rules). ZonesHavePlaces x) (λ (q : Query). HavePlaces q.frames) no_frames (λ g p s. turn_placed g p s) rules m e draws z h
+    step_each (λ (x : Zones). ZonesHavePlaces x) (λ (q : Query). HavePlaces q.frames) no_frames (λ g p s. turn_placed g p s) rules m e draws z h
 
 pub returns-clause-run : goal.returns-clause-run
 unfolding run AllOf
 returns-clause-run c rules draws cache es z =
-    taken_each (λ (x : Rules). ZonesHavePlaces x) (λ (q : Query). HavePlaces q.frames) no_frames (λ g p s. turn_placed g p s) rules draws 0 (opening cache) es z tt
+    taken_each (λ (x : Zones). ZonesHavePlaces x) (λ (q : Query). HavePlaces q.frames) no_frames (λ g p s. turn_placed g p s) rules draws 0 (opening cache) es z tt
