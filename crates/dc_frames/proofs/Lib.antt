@@ -1,2 +1,3 @@
 pub mod Onto
 pub mod PlaceLemmas
+pub mod Slots

@@ -89,7 +89,7 @@ pub nil_from_test : {A : Type 0} (xs : List A) → (length xs == 0) ≡ true →
 nil_from_test [] h = refl
 nil_from_test (x ∷ xs) h = grind (arith, nat_tests)
 
-set_second : (xs : List Frame) (acc : List machine.Frame) (k : ℕ) (y : Frame) → length xs ≡ suc (suc k) → onto (set xs k y) acc ≡ top (onto xs acc) ∷ frame_of y ∷ below (below (onto xs acc))
+pub set_second : (xs : List Frame) (acc : List machine.Frame) (k : ℕ) (y : Frame) → length xs ≡ suc (suc k) → onto (set xs k y) acc ≡ top (onto xs acc) ∷ frame_of y ∷ below (below (onto xs acc))
 unfolding onto top below
 set_second [] acc k y h = cc
 set_second (x ∷ []) acc k y h = absurd (omega arith)
@@ -97,7 +97,7 @@ set_second (x ∷ z ∷ []) acc zero y h = refl
 set_second (x ∷ z ∷ w ∷ xs) acc zero y h = absurd (omega arith)
 set_second (x ∷ z ∷ xs) acc (suc k) y h = set_second (z ∷ xs) (frame_of x ∷ acc) k y (omega arith)
 
-get_second : (xs : List Frame) (acc : List machine.Frame) (k : ℕ) (d : Frame) → length xs ≡ suc (suc k) → top (below (onto xs acc)) ≡ frame_of (get_or xs k d)
+pub get_second : (xs : List Frame) (acc : List machine.Frame) (k : ℕ) (d : Frame) → length xs ≡ suc (suc k) → top (below (onto xs acc)) ≡ frame_of (get_or xs k d)
 unfolding onto top below
 get_second [] acc k d h = cc
 get_second (x ∷ []) acc k d h = absurd (omega arith)

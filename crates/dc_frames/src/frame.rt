@@ -1,8 +1,10 @@
 //! Frames and aliases (after djbdns' query.c).
-ghost use Rattle.std.specs.Prelude.{◌≡◌};
+ghost use Rattle.std.specs.Prelude.{◌≡◌, ◌<◌, [], ◌∷◌, ◌++◌, length, MatchOption, drop};
+ghost use Rattle.dc_model.specs.Places as places;
 ghost use Rattle.dc_machine.specs.Query as machine;
 ghost use Rattle.dc_frames.specs.View.{frame_of};
 
+use crate::place::place;
 use arrayvec::ArrayVec;
 use dc_name::Name;
 
@@ -36,6 +38,52 @@ impl Frame {
             hosts: ArrayVec::new(),
             places: [[0; 4]; 16],
         }
+    }
+
+    /// Looks for another name, with no server known.
+    pub(crate) fn look_for(&mut self, name: &Name)
+        ensures { frame_of self.new ≡ machine.frame_for name.now }
+    {
+        self.name.copy_from(name);
+        self.control.set_root();
+        self.hosts.clear();
+        self.places = [[0; 4]; 16];
+    }
+
+    /// Takes the next server name.
+    pub(crate) fn take_host(&mut self) -> Option<Name>
+        ensures { MatchOption result (((frame_of self.old).hosts ≡ []) × (frame_of self.new ≡ frame_of self.old))
+            (λ name. ((frame_of self.old).hosts ≡ name ∷ drop 1 (frame_of self.old).hosts)
+            × (frame_of self.new ≡ record (frame_of self.old) { hosts = drop 1 (frame_of self.old).hosts })) }
+    {
+        if self.hosts.is_empty() {
+            return None;
+        }
+        Some(self.hosts.remove(0))
+    }
+
+    /// The servers of a zone are to be asked, at these places. No server name is to do.
+    pub(crate) fn ask_zone(&mut self, control: Name, places: &[[u8; 4]; 16])
+        ensures { frame_of self.new ≡ record { name = (frame_of self.old).name; control = control; hosts = []; places = places.now } }
+    {
+        self.control = control;
+        self.hosts.clear();
+        self.places = *places;
+    }
+
+    /// Adds a server name to those that are to do.
+    pub(crate) fn push_host(&mut self, host: Name)
+        requires { length (frame_of self.old).hosts < 16 }
+        ensures { frame_of self.new ≡ record (frame_of self.old) { hosts = (frame_of self.old).hosts ++ host ∷ [] } }
+    {
+        self.hosts.push(host);
+    }
+
+    /// Adds an address of a server.
+    pub(crate) fn add_address(&mut self, address: [u8; 4])
+        ensures { frame_of self.new ≡ record (frame_of self.old) { places = places.add_address address (frame_of self.old).places } }
+    {
+        place(&mut self.places, address);
     }
 }
 

@@ -6,8 +6,9 @@ ghost use Rattle.dc_machine.specs.Query as machine;
 ghost use Rattle.dc_frames.specs.View.{query_of, alias_of, no_request};
 
 use crate::NoMemory;
-use crate::frame::{Frame, Renamed};
-use crate::place::{none_placed, place};
+use crate::frame::Renamed;
+use crate::frames::Frames;
+use crate::place::none_placed;
 use arrayvec::ArrayVec;
 use dc_name::Name;
 use dc_packet::Request;
@@ -19,7 +20,7 @@ use std::alloc::Global;
 #[derive(Drop)]
 pub struct Query {
     pub request: Request,
-    pub frames: Box<ArrayVec<Frame, 5>>,
+    pub frames: Box<Frames>,
     pub aliases: Box<ArrayVec<Renamed, 16>>,
     pub turns: u32,
 }
@@ -37,7 +38,7 @@ impl Query {
                 qtype: 0,
                 qclass: 0,
             },
-            frames: Box::new(alloc, ArrayVec::new())?,
+            frames: Box::new(alloc, Frames::new())?,
             aliases: Box::new(alloc, ArrayVec::new())?,
             turns: 0,
         })
@@ -47,12 +48,10 @@ impl Query {
     pub fn take(&mut self, request: &Request)
         ensures { query_of self.new ≡ machine.query_for (asked request.now) }
     {
-        self.request = Request {
-            id: request.id,
-            name: request.name.copy(),
-            qtype: request.qtype,
-            qclass: request.qclass,
-        };
+        self.request.id = request.id;
+        self.request.name.copy_from(&request.name);
+        self.request.qtype = request.qtype;
+        self.request.qclass = request.qclass;
         self.frames.clear();
         self.aliases.clear();
         self.turns = 0;
@@ -63,7 +62,7 @@ impl Query {
         ensures { query_of self.new ≡ machine.begun (query_of self.old) }
     {
         self.frames.clear();
-        self.frames.push(Frame::new(self.request.name.copy()));
+        self.frames.raise(&self.request.name);
     }
 
     /// Counts a turn.
@@ -79,7 +78,7 @@ impl Query {
         requires { 0 < length (query_of self.old).frames }
         ensures { query_of self.new ≡ machine.lowered (query_of self.old) }
     {
-        let _ = self.frames.pop();
+        self.frames.lower();
     }
 
     /// Puts a frame on top, which looks for a name.
@@ -87,7 +86,7 @@ impl Query {
         requires { length (query_of self.old).frames < 5 }
         ensures { query_of self.new ≡ machine.raised (query_of self.old) name }
     {
-        self.frames.push(Frame::new(name));
+        self.frames.raise(&name);
     }
 
     /// The frame on top looks for another name.
@@ -95,8 +94,7 @@ impl Query {
         requires { 0 < length (query_of self.old).frames }
         ensures { query_of self.new ≡ machine.renamed (query_of self.old) name }
     {
-        let at = self.frames.len() - 1;
-        self.frames[at].name = name;
+        self.frames.rename(name);
     }
 
     /// Adds the name on top to the aliases, which is known for so many seconds.
@@ -105,7 +103,7 @@ impl Query {
         requires room { length (query_of self.old).aliases < 16 }
         ensures { query_of self.new ≡ machine.with_alias (query_of self.old) ttl }
     {
-        let name = self.frames[self.frames.len() - 1].name.copy();
+        let name = self.frames.top().name.copy();
         self.aliases.push(Renamed { name, ttl });
     }
 
@@ -116,11 +114,7 @@ impl Query {
             (λ name. ((machine.top_of (query_of self.old)).hosts ≡ name ∷ drop 1 (machine.top_of (query_of self.old)).hosts)
             × (query_of self.new ≡ machine.with_hosts (query_of self.old) (drop 1 (machine.top_of (query_of self.old)).hosts))) }
     {
-        let at = self.frames.len() - 1;
-        if self.frames[at].hosts.is_empty() {
-            return None;
-        }
-        Some(self.frames[at].hosts.remove(0))
+        self.frames.take_host()
     }
 
     /// The servers of a zone are to be asked, at these places. No server name is to do.
@@ -128,11 +122,7 @@ impl Query {
         requires { 0 < length (query_of self.old).frames }
         ensures { query_of self.new ≡ machine.with_zone (query_of self.old) control [] places.now }
     {
-        let at = self.frames.len() - 1;
-        let frame = &mut self.frames[at];
-        frame.control = control;
-        frame.hosts.clear();
-        frame.places = *places;
+        self.frames.ask_zone(control, places);
     }
 
     /// Adds a server name to those that the frame on top has to do.
@@ -141,8 +131,7 @@ impl Query {
         requires room { length (machine.top_of (query_of self.old)).hosts < 16 }
         ensures { query_of self.new ≡ machine.with_hosts (query_of self.old) ((machine.top_of (query_of self.old)).hosts ++ host ∷ []) }
     {
-        let at = self.frames.len() - 1;
-        self.frames[at].hosts.push(host);
+        self.frames.push_host(host);
     }
 
     /// The frame on top has its servers at these places.
@@ -150,8 +139,7 @@ impl Query {
         requires { 0 < length (query_of self.old).frames }
         ensures { query_of self.new ≡ machine.with_places (query_of self.old) places.now }
     {
-        let at = self.frames.len() - 1;
-        self.frames[at].places = *places;
+        self.frames.set_places(places);
     }
 
     /// Adds an address to the frame below the one on top.
@@ -159,8 +147,7 @@ impl Query {
         requires { 1 < length (query_of self.old).frames }
         ensures { query_of self.new ≡ machine.with_address (query_of self.old) address }
     {
-        let at = self.frames.len() - 2;
-        place(&mut self.frames[at].places, address);
+        self.frames.add_address(address);
     }
 
     /// What was asked.
@@ -208,7 +195,7 @@ impl Query {
         requires { 0 < length (query_of self.now).frames }
         ensures { result.now ≡ machine.name_of (query_of self.now) }
     {
-        &self.frames[self.frames.len() - 1].name
+        &self.frames.top().name
     }
 
     /// The zone whose servers the frame on top asks.
@@ -216,7 +203,7 @@ impl Query {
         requires { 0 < length (query_of self.now).frames }
         ensures { result.now ≡ (machine.top_of (query_of self.now)).control }
     {
-        &self.frames[self.frames.len() - 1].control
+        &self.frames.top().control
     }
 
     /// The places of the servers of the frame on top.
@@ -224,7 +211,7 @@ impl Query {
         requires { 0 < length (query_of self.now).frames }
         ensures { result.now ≡ (machine.top_of (query_of self.now)).places }
     {
-        &self.frames[self.frames.len() - 1].places
+        &self.frames.top().places
     }
 
     /// Whether the frame on top knows no address.

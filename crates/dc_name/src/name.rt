@@ -6,7 +6,7 @@ ghost use Rattle.dc_name.specs.Wire.{IsWire, name_of};
 
 use crate::number::digits;
 use crate::text::without_final_dot;
-use crate::wire::{copied, lowercase, push_label, refusal, same_wire, under_wire};
+use crate::wire::{copied, copy_onto, lowercase, push_label, refusal, same_wire, under_wire};
 use crate::{NameError, Suffix};
 use arrayvec::ArrayVec;
 use dc_limits::LONGEST_NAME;
@@ -140,6 +140,20 @@ impl Name {
         ensures { result ≡ self.now }
     {
         Name::of_wire(self.bytes.as_slice())
+    }
+
+    /// Takes another name in the place of this one. Only the bytes that the other has are copied.
+    pub fn copy_from(&mut self, other: &Name)
+        ensures { self.new ≡ other.now }
+    {
+        copy_onto(&mut self.bytes, other.bytes.as_slice());
+    }
+
+    /// Becomes the root.
+    pub fn set_root(&mut self)
+        ensures { self.new ≡ model.root }
+    {
+        self.copy_from(&Name::root());
     }
 
     /// The name with its ASCII letters in lower case.

@@ -48,6 +48,15 @@ pub(crate) fn copied(wire: &[u8]) -> ArrayVec<u8, LONGEST_NAME>
     bytes
 }
 
+/// Copies a name's bytes into the place of another's.
+pub(crate) fn copy_onto(bytes: &mut ArrayVec<u8, MOST_WIRE>, wire: &[u8])
+    requires { length wire.now ≤ 255 }
+    ensures { bytes.new.items ≡ wire.now }
+{
+    bytes.clear();
+    append(bytes, wire);
+}
+
 /// Brings ASCII letters into lower case.
 pub(crate) fn lowercase(bytes: &mut ArrayVec<u8, LONGEST_NAME>)
     ensures { bytes.new.items ≡ str_to_ascii_lowercase bytes.old.items }
