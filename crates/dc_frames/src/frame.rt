@@ -1,5 +1,6 @@
 //! Frames and aliases (after djbdns' query.c).
 ghost use Rattle.std.specs.Prelude.{◌≡◌, ◌<◌, [], ◌∷◌, ◌++◌, length, MatchOption, drop};
+ghost use Rattle.dc_model.specs.Limits.{most_hosts};
 ghost use Rattle.dc_model.specs.Places as places;
 ghost use Rattle.dc_machine.specs.Query as machine;
 ghost use Rattle.dc_frames.specs.View.{frame_of};
@@ -73,7 +74,7 @@ impl Frame {
 
     /// Adds a server name to those that are to do.
     pub(crate) fn push_host(&mut self, host: Name)
-        requires { length (frame_of self.old).hosts < 16 }
+        requires { length (frame_of self.old).hosts < most_hosts }
         ensures { frame_of self.new ≡ record (frame_of self.old) { hosts = (frame_of self.old).hosts ++ host ∷ [] } }
     {
         self.hosts.push(host);

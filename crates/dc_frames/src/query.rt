@@ -1,5 +1,6 @@
 //! Queries.
 ghost use Rattle.std.specs.Prelude.{◌≡◌, ◌≤◌, ◌<◌, ◌+◌, [], ◌∷◌, ◌++◌, length, IfOk, MatchOption, drop, slice_get};
+ghost use Rattle.dc_model.specs.Limits.{most_levels, most_hosts, most_aliases};
 ghost use Rattle.dc_model.specs.Places as places;
 ghost use Rattle.dc_packet.specs.Question.{asked};
 ghost use Rattle.dc_machine.specs.Query as machine;
@@ -83,7 +84,7 @@ impl Query {
 
     /// Puts a frame on top, which looks for a name.
     pub fn raise(&mut self, name: Name)
-        requires { length (query_of self.old).frames < 5 }
+        requires { length (query_of self.old).frames < most_levels }
         ensures { query_of self.new ≡ machine.raised (query_of self.old) name }
     {
         self.frames.raise(&name);
@@ -100,7 +101,7 @@ impl Query {
     /// Adds the name on top to the aliases, which is known for so many seconds.
     pub fn push_alias(&mut self, ttl: u32)
         requires some { 0 < length (query_of self.old).frames }
-        requires room { length (query_of self.old).aliases < 16 }
+        requires room { length (query_of self.old).aliases < most_aliases }
         ensures { query_of self.new ≡ machine.with_alias (query_of self.old) ttl }
     {
         let name = self.frames.top().name.copy();
@@ -128,7 +129,7 @@ impl Query {
     /// Adds a server name to those that the frame on top has to do.
     pub fn push_host(&mut self, host: Name)
         requires some { 0 < length (query_of self.old).frames }
-        requires room { length (machine.top_of (query_of self.old)).hosts < 16 }
+        requires room { length (machine.top_of (query_of self.old)).hosts < most_hosts }
         ensures { query_of self.new ≡ machine.with_hosts (query_of self.old) ((machine.top_of (query_of self.old)).hosts ++ host ∷ []) }
     {
         self.frames.push_host(host);
@@ -167,7 +168,7 @@ impl Query {
     /// The number of frames.
     pub fn levels(&self) -> usize
         ensures value { result ≡ length (query_of self.now).frames }
-        ensures most { result ≤ 5 }
+        ensures most { result ≤ most_levels }
     {
         self.frames.len()
     }
@@ -225,7 +226,7 @@ impl Query {
     /// The number of aliases.
     pub fn aliases(&self) -> usize
         ensures value { result ≡ length (query_of self.now).aliases }
-        ensures most { result ≤ 16 }
+        ensures most { result ≤ most_aliases }
     {
         self.aliases.len()
     }

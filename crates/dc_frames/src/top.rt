@@ -1,5 +1,6 @@
 //! The frame on top.
 ghost use Rattle.std.specs.Prelude.{◌≡◌, ◌≤◌, ◌<◌, [], ◌∷◌, ◌++◌, length, MatchOption, drop};
+ghost use Rattle.dc_model.specs.Limits.{most_levels, most_hosts};
 ghost use Rattle.dc_model.specs.Places as model;
 ghost use Rattle.dc_machine.specs.Query as machine;
 ghost use Rattle.dc_frames.specs.View.{frame_of, frames_of};
@@ -36,7 +37,7 @@ impl Frames {
     /// The number of frames.
     pub(crate) fn len(&self) -> usize
         ensures value { result ≡ length (frames_of self.now) }
-        ensures most { result ≤ 5 }
+        ensures most { result ≤ most_levels }
     {
         let slots: &[Frame] = &self.slots;
         let _ = slots.len();
@@ -45,7 +46,7 @@ impl Frames {
 
     /// Puts a frame on top, which looks for a name.
     pub(crate) fn raise(&mut self, name: &Name)
-        requires { length (frames_of self.old) < 5 }
+        requires { length (frames_of self.old) < most_levels }
         ensures { frames_of self.new ≡ machine.frame_for name.now ∷ frames_of self.old }
     {
         let at = self.len;
@@ -103,7 +104,7 @@ impl Frames {
     /// Adds a server name to those that the frame on top has to do.
     pub(crate) fn push_host(&mut self, host: Name)
         requires some { 0 < length (frames_of self.old) }
-        requires room { length (machine.top (frames_of self.old)).hosts < 16 }
+        requires room { length (machine.top (frames_of self.old)).hosts < most_hosts }
         ensures { frames_of self.new ≡ record (machine.top (frames_of self.old)) { hosts = (machine.top (frames_of self.old)).hosts ++ host ∷ [] } ∷ machine.below (frames_of self.old) }
     {
         let at = self.len - 1;

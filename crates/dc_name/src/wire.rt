@@ -49,7 +49,7 @@ pub(crate) fn copied(wire: &[u8]) -> ArrayVec<u8, LONGEST_NAME>
 }
 
 /// Copies a name's bytes into the place of another's.
-pub(crate) fn copy_onto(bytes: &mut ArrayVec<u8, MOST_WIRE>, wire: &[u8])
+pub(crate) fn copy_onto(bytes: &mut ArrayVec<u8, LONGEST_NAME>, wire: &[u8])
     requires { length wire.now ≤ 255 }
     ensures { bytes.new.items ≡ wire.now }
 {
