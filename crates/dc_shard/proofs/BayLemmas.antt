@@ -4,7 +4,7 @@ use Rattle.std.specs.Prelude.{All}
 use Rattle.std.proofs.lemmas.List.Elements.{All-nil, All-cons}
 use Rattle.std.specs.declared.option.Option.{Option}
 use Rattle.std.specs.declared.option.Option.TheVariants.{None}
-use Rattle.dc_model.specs.Event.{Event, Action}
+use Rattle.dc_model.specs.Event.{Event, Kind, Action, tick, request, datagram, link_up, link_bytes, link_down, bind_refused, conn_up, conn_bytes, conn_down}
 use Rattle.dc_engine.specs.Automaton.{Automaton}
 use Rattle.dc_engine.specs.View.{kind_of, event_of}
 use Rattle.dc_engine.specs.declared.events.Event.{Event as CodeEvent}
@@ -192,12 +192,29 @@ module _ {E : Type 0} where
 
 -- Where an event goes, and how its core sees it.
 
-pub route_as : {S : Type 0} (m : Automaton S) (ss : List S) (cores due core : ℕ) (e : Event) → core ≡ core_by e.kind cores due e → cores ≡ length ss
-    → due ≡ due_core (due_from 0 (map m.wake ss)) → core ≡ route m ss e
-unfolding route
-route_as m ss cores due core e is n d = is ∙ (λ i. core_by e.kind (n i) (d i) e)
+-- Where an event goes that is no tick, nothing that is due matters.
+pub no_tick : (k : Kind) (cores d due : ℕ) (e : Event) → (k ≡ tick → ⊥) → core_by k cores d e ≡ core_by k cores due e
+unfolding core_by
+no_tick tick cores d due e h = absurd (h refl)
+no_tick request cores d due e h = refl
+no_tick datagram cores d due e h = refl
+no_tick link_up cores d due e h = refl
+no_tick link_bytes cores d due e h = refl
+no_tick link_down cores d due e h = refl
+no_tick bind_refused cores d due e h = refl
+no_tick conn_up cores d due e h = refl
+no_tick conn_bytes cores d due e h = refl
+no_tick conn_down cores d due e h = refl
 
 pub inner_as : (cores n : ℕ) (e : CodeEvent) (m : Event) (bytes : List ℕ) → event_of e m.bytes ≡ m → bytes ≡ m.bytes → n ≡ number_by (kind_of e.kind) cores e.id
     → event_of (record e { id = n }) bytes ≡ inner cores m
 inner_as cores n e m bytes is same number =
     (λ i. record { now = e.now; kind = kind_of e.kind; id = number i; addr = e.addr; port = e.port; bytes = same i }) ∙ ap (inner cores) is
+
+pub tick_as : {S : Type 0} (m : Automaton S) (ss : List S) (due : ℕ) (e : Event) → e.kind ≡ tick → due ≡ due_core (due_from 0 (map m.wake ss)) → due ≡ route m ss e
+unfolding route core_by
+tick_as m ss due e kind d = d ∙ sym (ap (λ k. core_by k (length ss) (due_core (due_from 0 (map m.wake ss))) e) kind)
+
+pub other_as : {S : Type 0} (m : Automaton S) (ss : List S) (cores core : ℕ) (e : Event) → core ≡ core_by e.kind cores 0 e → cores ≡ length ss → (e.kind ≡ tick → ⊥) → core ≡ route m ss e
+unfolding route
+other_as m ss cores core e is n away = is ∙ (λ i. core_by e.kind (n i) 0 e) ∙ no_tick e.kind (length ss) 0 (due_core (due_from 0 (map m.wake ss))) e away

@@ -3,3 +3,4 @@ pub mod HandLemmas
 pub mod RoundLemmas
 pub mod FollowLemmas
 pub mod ServeLemmas
+pub mod AloneLemmas

@@ -5,3 +5,4 @@ pub mod Taped
 pub mod Rounds
 pub mod Serving
 pub mod Dues
+pub mod Acting

@@ -4,6 +4,7 @@
 //! A core is any engine. What all of them do together is said of one machine, `split` of `dc_split`, whatever the threads do.
 #![tactic(auto)]
 
+mod acting;
 mod bay;
 mod due;
 mod outward;

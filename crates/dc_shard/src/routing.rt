@@ -85,7 +85,8 @@ pub(crate) fn inner_number(cores: u64, event: Event) -> u64
 
 /// Whether an event is a Tick.
 pub(crate) fn is_tick(inbox: &Inbox) -> bool
-    ensures { result ≡ false → inbox.now.kind ≢ tick }
+    ensures no { result ≡ false → inbox.now.kind ≢ tick }
+    ensures yes { result ≡ true → inbox.now.kind ≡ tick }
 {
     match inbox.event().kind {
         Kind::Tick => true,

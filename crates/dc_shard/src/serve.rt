@@ -69,11 +69,9 @@ pub fn serve_shards<E: Engine + Send, W: BatchWorld, R: Threads + Sync>(
         }
         let mut order = Order::new();
         held = take_round(world, shards, spare, draws, &mut order, limit - handled);
-        shards.step_all(rt);
-        if !shards.play(&order, world) {
+        if !shards.act(rt, &order, world) {
             return ShardServed::NoMemory;
         }
-        shards.clear();
         handled += order.len() as u64;
     }
 }

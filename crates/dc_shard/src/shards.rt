@@ -56,8 +56,10 @@ impl<E: Engine, O: Effects> Shards<E, O> {
         ensures within { result < length self.now.bays.items }
     {
         let cores = self.bays.len() as u64;
-        let due = due_core(due_from(0, &self.bays)) as u64;
-        core_of(cores, due, inbox) as usize
+        if is_tick(inbox) {
+            return due_core(due_from(0, &self.bays));
+        }
+        core_of(cores, 0, inbox) as usize
     }
 
     /// Gives an event with its random words to a core, which sees it with its own number of a link.

@@ -4,10 +4,9 @@ use Rattle.dc_event.specs.declared.answers.Heard.TheVariants as said
 use Rattle.dc_event.specs.History.{done_all, ended, failed, bad}
 use Rattle.dc_split.specs.Split.{split}
 use Rattle.dc_shard.specs.Bays.{states_of, outs_of, MayStepEach}
-use Rattle.dc_shard.specs.Taped.{Gains}
 use Rattle.dc_shard.specs.Rounds.{AreBlank, AllBelow, InRound, begun, held_over, played_by}
 use Rattle.dc_shard.specs.declared.served.ShardServed.TheVariants.{Spent, Ended, Failed, Bad}
-use Rattle.dc_shard.proofs.BayLemmas.{length_states, stepped_length, cleared_length}
+use Rattle.dc_shard.proofs.BayLemmas.{length_states}
 use Rattle.dc_shard.proofs.RoundLemmas.{may_less}
 use Rattle.dc_shard.proofs.ServeLemmas.{serve_begins, serve_more, serve_ends, serve_lacks, held_none, not_held, order_length}
 use Rattle.dc_shard.proofs.serve.serve_shards.Goals as goal
@@ -74,8 +73,8 @@ returns-in-Bad-clause-run g c =
     serve_ends g.W.World.history g.met.W.World.history_both m state _ _ _ _ _ c.rounds.world c.begin.new.world _ _ c.rounds.handled c.rounds.held c.rounds.spare c.rounds.invariant.0 (Bad c.in-Bad.line) _
     so none c.min-limit.ensures below asks (refl, (refl, refl))
 
-pub step_all-requires-after_bounds : goal.step_all-requires-after_bounds
-step_all-requires-after_bounds g c κs within =
+pub act-requires-clause-steps : goal.act-requires-clause-steps
+act-requires-clause-steps g c κs within =
     let m = g.E.Engine.machine in
     let state = g.E.Engine.state in
     let so = c.rounds.invariant.1.so_far in
@@ -83,28 +82,33 @@ step_all-requires-after_bounds g c κs within =
     let some : 1 ≤ c.min-limit.result - c.rounds.handled = omega (arith, so.within, c.if-handled-limit.false) in
     subst (MayStepEach m 1) (sym round.states) (may_less m state (draws_of c.rounds.draws.seed) (c.min-limit.result - c.rounds.handled) 1 (states_of state c.rounds.shards.bays.items) some so.steps)
 
-pub play-requires : goal.play-requires
-play-requires g c =
+pub act-requires-clause-places : goal.act-requires-clause-places
+act-requires-clause-places g c =
+    let mid = c.take_round-held.new.shards.bays.items in
+    let round = c.take_round-held.ensures.run.1.1.1.0 in
+    subst (AllBelow (length mid)) (sym c.deref.ensures.0) round.places
+
+pub act-requires-clause-count : goal.act-requires-clause-count
+act-requires-clause-count g c =
     let m = g.E.Engine.machine in
     let state = g.E.Engine.state in
-    let mid = c.take_round-held.new.shards.bays.items in
-    let after = c.step_all.new.self.bays.items in
-    let round = c.take_round-held.ensures.run.1.1.1.0 in
-    let len = stepped_length Gains m state (length mid) 0 mid after c.step_all.ensures in
-    subst (AllBelow (length after)) (sym c.deref.ensures.0) (subst (λ n. AllBelow n c.take_round-held.new.order.items) (sym len) round.places)
+    let run = c.take_round-held.ensures.run in
+    let round = run.1.1.1.0 in
+    round.count ∙ sym (ap length round.in_order ∙ order_length m (states_of state c.rounds.shards.bays.items) (draws_of c.rounds.draws.seed) c.rounds.draws.given (c.begin.new.inbox ∷ run.0)) ∙ sym (ap length c.deref.ensures.0)
 
-pub returns-then-not-play-clause-run : goal.returns-then-not-play-clause-run
-returns-then-not-play-clause-run g c =
+pub act-requires-clause-blank : goal.act-requires-clause-blank
+act-requires-clause-blank g c = c.take_round-held.ensures.run.1.1.1.0.outs
+
+pub returns-then-not-act-clause-run : goal.returns-then-not-act-clause-run
+returns-then-not-act-clause-run g c =
     let run = c.take_round-held.ensures.run in
     let heard = c.in-Event.ensures in
-    serve_lacks g.W.World.history g.met.W.World.history_both g.E.Engine.machine g.E.Engine.state _ _ c.min-limit.result _ _ c.rounds.world c.begin.new.world c.take_round-held.new.world c.play.new.out
+    serve_lacks g.W.World.history g.met.W.World.history_both g.E.Engine.machine g.E.Engine.state _ _ c.min-limit.result _ _ c.rounds.world c.begin.new.world c.take_round-held.new.world c.act.new.out
     c.rounds.shards.bays.items c.rounds.draws.given c.rounds.handled _ _ c.rounds.held c.rounds.spare c.begin.new.inbox c.rounds.invariant.0 _ _
-    c.rounds.invariant.1.so_far heard.same heard.passed heard.warrant run.1.0 run.1.1.0 run.1.1.1.1.1 (c.play.ensures.short c.if-not-play.true) c.min-limit.ensures
+    c.rounds.invariant.1.so_far heard.same heard.passed heard.warrant run.1.0 run.1.1.0 run.1.1.1.1.1 (c.act.ensures.short c.if-not-act.true) c.min-limit.ensures
 
-pub returns-then-not-play-clause-len : goal.returns-then-not-play-clause-len
-returns-then-not-play-clause-len g c =
-    let mid = c.take_round-held.new.shards.bays.items in
-    stepped_length Gains g.E.Engine.machine g.E.Engine.state (length mid) 0 mid c.step_all.new.self.bays.items c.step_all.ensures ∙ c.take_round-held.ensures.len ∙ c.rounds.invariant.1.len
+pub returns-then-not-act-clause-len : goal.returns-then-not-act-clause-len
+returns-then-not-act-clause-len g c = c.act.ensures.len ∙ c.take_round-held.ensures.len ∙ c.rounds.invariant.1.len
 
 pub rounds-smaller : goal.rounds-smaller
 rounds-smaller g c =
@@ -126,22 +130,22 @@ rounds-preserved g c =
     let heard = c.in-Event.ensures in
     let before = c.rounds.shards.bays.items in
     let mid = c.take_round-held.new.shards.bays.items in
-    let after = c.step_all.new.self.bays.items in
+    let done = c.act.ensures.acted c.if-not-act.false in
+    let after = done.taped in
     let order = c.take_round-held.new.order.items in
     let round : InRound m state (draws_of c.args.draws.now.seed) c.rounds.draws.given (states_of state before) mid order (c.begin.new.inbox ∷ run.0) =
     subst (λ s. InRound m state (draws_of s) c.rounds.draws.given (states_of state before) mid order (c.begin.new.inbox ∷ run.0)) kept.seed run.1.1.1.0 in
-    let acted = c.play.ensures.acted c.if-not-play.false in
-    let plays = subst (λ o. g.W.World.history c.take_round-held.new.world (done_all (played_by (outs_of after) o)) c.play.new.out) c.deref.ensures.0 (laws.acted_history _ _ _ acted) in
+    let plays = subst (λ o. g.W.World.history c.take_round-held.new.world (done_all (played_by (outs_of after) o)) c.act.new.out) c.deref.ensures.0 (laws.acted_history _ _ _ done.acts) in
     let more = serve_more g.W.World.history laws.history_both m state (draws_of c.args.draws.now.seed) c.args.draws.now.given c.min-limit.result (states_of state c.args.shards.now.bays.items)
-    c.args.world.now c.rounds.world c.begin.new.world c.take_round-held.new.world c.play.new.out before mid after c.clear.new.self.bays.items order c.rounds.draws.given c.rounds.handled c.rounds.held c.rounds.spare
+    c.args.world.now c.rounds.world c.begin.new.world c.take_round-held.new.world c.act.new.out before mid after c.act.new.self.bays.items order c.rounds.draws.given c.rounds.handled c.rounds.held c.rounds.spare
     c.begin.new.inbox c.rounds.invariant.0 run.0 c.take_round-held.result c.take_round-held.new.inbox kept.so_far heard.same heard.passed heard.warrant run.1.0 run.1.1.0 round run.1.1.1.1.1
-    c.take_round-held.ensures.event c.step_all.ensures (c.play.ensures.whole c.if-not-play.false) plays c.clear.ensures c.events_count.ensures
+    c.take_round-held.ensures.event done.stepped done.whole plays done.cleared c.events_count.ensures
     c.take_round-held.new.draws.given (c.rounds.handled + c.len.result) (ap (λ d. d.given) run.1.1.1.1.0) (ap (λ n. c.rounds.handled + n) c.len.ensures.value) in (
       more.0,
       record {
         so_far = more.1;
         seed = ap (λ d. d.seed) run.1.1.1.1.0 ∙ kept.seed;
-        stays = laws.acted_faults _ _ _ acted ∙ c.take_round-held.ensures.count ∙ heard.count ∙ kept.stays;
-        len = cleared_length after c.clear.new.self.bays.items c.clear.ensures ∙ stepped_length Gains m state (length mid) 0 mid after c.step_all.ensures ∙ c.take_round-held.ensures.len ∙ kept.len;
+        stays = laws.acted_faults _ _ _ done.acts ∙ c.take_round-held.ensures.count ∙ heard.count ∙ kept.stays;
+        len = c.act.ensures.len ∙ c.take_round-held.ensures.len ∙ kept.len;
       },
     )
