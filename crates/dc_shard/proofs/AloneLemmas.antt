@@ -1,5 +1,5 @@
 -- One core makes its step alone.
-use Rattle.std.proofs.Common.{◌≡◌, ℕ, zero, suc, ◌+◌, ◌-◌, ◌<◌, ◌≤◌, Bool, true, false, List, [], ◌∷◌, ◌++◌, length, slice_set, slice_index_or, refl, sym, ◌∙◌, ap, subst, arith}
+use Rattle.std.proofs.Common.{◌≡◌, ℕ, zero, suc, ◌+◌, ◌^◌, ◌<◌, ◌≤◌, Bool, true, false, List, [], ◌∷◌, ◌++◌, length, slice_set, slice_index_or, refl, sym, ◌∙◌, ap, subst, arith}
 use Rattle.std.proofs.lemmas.List.{append-nil}
 use Rattle.dc_model.specs.Event.{Action}
 use Rattle.dc_engine.specs.Automaton.{Automaton}
@@ -23,6 +23,18 @@ pub set_len : {A : Type 0} (xs : List A) (i : ℕ) (a : A) → length (slice_set
 set_len [] i a = refl
 set_len (x ∷ xs) zero a = refl
 set_len (x ∷ xs) (suc i) a = ap suc (set_len xs i a)
+
+pub any_default : {A : Type 0} (xs : List A) (i : ℕ) (d e : A) → i < length xs → slice_index_or xs i d ≡ slice_index_or xs i e
+any_default [] i d e l = absurd (omega (arith, l))
+any_default (x ∷ xs) zero d e l = refl
+any_default (x ∷ xs) (suc i) d e l = any_default xs i d e (omega (arith, l))
+
+pub empty_length : {A : Type 0} (xs : List A) → length xs ≡ 0 → xs ≡ []
+empty_length [] e = refl
+empty_length (x ∷ xs) e = absurd (omega (arith, e))
+
+pub given_any : {E O : Type 0} (bs : List (Bay E O)) (i : ℕ) (x e : Bay E O) → i < length bs → x ≡ slice_index_or bs i e → x.given ≡ true → (d : Bay E O) → (slice_index_or bs i d).given ≡ true
+given_any bs i x e l is given d = ap (λ b. b.given) (any_default bs i d e l ∙ sym is) ∙ given
 
 -- A bay that was given an event is the only one, where there is one.
 
@@ -64,14 +76,13 @@ module _ {E S : Type 0} (m : Automaton S) (state : E → S) where
       (subst (λ n. Stepped Gains m state cores n x b) here (moves x), all_still cores (from + 1) xs (none_given xs (omega (arith, count, one))))
   one_moves cores from (suc i) (x ∷ xs) b l count given moves =
       let there : from + suc i ≡ from + 1 + i = omega arith in
-      let some = at_least xs i x (omega (arith, l)) (given x) in
-      (
+      let some = at_least xs i x (omega (arith, l)) (given x) in (
         still cores from x (not_given x.given (omega (arith, count, some))),
         one_moves cores (from + 1) i xs b (omega (arith, l)) (omega (arith, count, some)) given (λ d. subst (λ n. Stepped Gains m state cores n (slice_index_or xs i d) b) there (moves d)),
       )
 
   -- The tape that the core would have kept.
-  taped : (cores core : ℕ) (old new : Bay E Taped) → Bay E Taped
+  abbrev taped : (cores core : ℕ) (old new : Bay E Taped) → Bay E Taped
   taped cores core old new = record new { out = record { short = false; actions = all_outer cores core (m.actions (state old.core) old.inbox old.draws) } }
 
   whole_set : (bs : List (Bay E Taped)) (i : ℕ) (b : Bay E Taped) → AreBlank (outs_of bs) → b.out.short ≡ false → AreWhole (outs_of (slice_set bs i b))
@@ -131,20 +142,24 @@ module _ {E S : Type 0} (m : Automaton S) (state : E → S) where
         cleared = cleared_set bs core t b none (ap (λ o. record b { out = o }) out);
       }
     where
-      same_at : (bs : List (Bay E Taped)) (i : ℕ) (d e : Bay E Taped) → i < length bs → slice_index_or bs i d ≡ slice_index_or bs i e
-      same_at [] i d e l = absurd (omega (arith, l))
-      same_at (y ∷ ys) zero d e l = refl
-      same_at (y ∷ ys) (suc i) d e l = same_at ys i d e (omega (arith, l))
-
       moves : (d : Bay E Taped) → Stepped Gains m state (length (x ∷ xs)) (0 + core) (slice_index_or (x ∷ xs) core d) (taped (length (x ∷ xs)) core (slice_index_or (x ∷ xs) core x) b)
       moves d =
           let at = slice_index_or (x ∷ xs) core x in
           let here : core ≡ 0 + core = omega arith in
           subst (λ n. Stepped Gains m state (length (x ∷ xs)) n (slice_index_or (x ∷ xs) core d) (taped (length (x ∷ xs)) core at b)) here
-          (subst (λ o. Stepped Gains m state (length (x ∷ xs)) core o (taped (length (x ∷ xs)) core at b)) (same_at (x ∷ xs) core x d l)
+          (subst (λ o. Stepped Gains m state (length (x ∷ xs)) core o (taped (length (x ∷ xs)) core at b)) (any_default (x ∷ xs) core x d l)
           (moved_by (length (x ∷ xs)) core at b (given x) (blank_at (x ∷ xs) core x l none) (acts x).moved (acts x).free))
 
   pub may_at : (n : ℕ) (bs : List (Bay E Taped)) (i : ℕ) (d : Bay E Taped) → i < length bs → MayStepEach m n (states_of state bs) → MayStep m n (state (slice_index_or bs i d).core)
   may_at n [] i d l h = absurd (omega (arith, l))
   may_at n (x ∷ xs) zero d l h = h.0
   may_at n (x ∷ xs) (suc i) d l h = may_at n xs i d (omega (arith, l)) h.1
+
+  pub may_here : (bs : List (Bay E Taped)) (i : ℕ) (x d : Bay E Taped) → i < length bs → x ≡ slice_index_or bs i d → MayStepEach m 1 (states_of state bs) → m.handled (state x.core) + 1 ≤ 2 ^ 60
+  may_here bs i x d l is h = subst (λ b. m.handled (state b.core) + 1 ≤ 2 ^ 60) (sym is) (may_at 1 bs i d l h)
+
+  pub alone_here : {W : Type 0} (acted : W → List Action → W → Type 0) (bs : List (Bay E Taped)) (i : ℕ) (x e new : Bay E Taped) (cores : ℕ) (before after : W) → i < length bs → x ≡ slice_index_or bs i e
+      → cores ≡ length bs → ActsAlone acted m state cores i x new before after → (d : Bay E Taped) → ActsAlone acted m state (length bs) i (slice_index_or bs i d) new before after
+  alone_here acted bs i x e new cores before after l is n acts d =
+      subst (λ k. ActsAlone acted m state k i (slice_index_or bs i d) new before after) n
+      (subst (λ o. ActsAlone acted m state cores i o new before after) (is ∙ any_default bs i e d l) acts)

@@ -1,5 +1,6 @@
 //! The cores of a round make their steps, and what they do is done.
-ghost use Rattle.std.specs.Prelude.{◌≡◌, ◌<◌, ℕ, length, true, false, slice_index_or, slice_set};
+ghost use Rattle.std.specs.Prelude.{◌≡◌, ◌<◌, ◌≤◌, ◌+◌, ◌^◌, ◌∷◌, [], ℕ, length, true, false, slice_index_or, slice_set, IfSome};
+ghost use Rattle.dc_split.specs.Routing.{all_outer};
 ghost use Rattle.dc_shard.specs.Acting.{ActsInOrder, ActsAlone};
 ghost use Rattle.dc_shard.specs.Bays.{states_of, outs_of, count_given, MayStepEach};
 ghost use Rattle.dc_shard.specs.Rounds.{AllBelow, AreBlank};
@@ -8,8 +9,37 @@ use crate::bay::Bay;
 use crate::outward::Outward;
 use crate::shards::Shards;
 use crate::tape::Tape;
-use dc_engine::{Effects, Engine};
+use dc_engine::{Effects, Engine, Inbox};
 use std::thread::Threads;
+
+/// The core at a place that is the only one of an order.
+fn lone(order: &[usize]) -> Option<usize>
+    ensures { IfSome result (λ core. order.now ≡ core ∷ []) }
+{
+    let (first, behind) = order.split_first()?;
+    if behind.is_empty() {
+        Some(*first)
+    } else {
+        None
+    }
+}
+
+/// A core makes its step, and its actions are done with outer numbers of links.
+fn step_out<E: Engine, W: Effects>(
+    cores: u64,
+    core: u64,
+    engine: &mut E,
+    inbox: &Inbox,
+    draws: &[u32; 17],
+    out: &mut W,
+)
+    requires { E.machine.handled (E.state engine.old) + 1 ≤ 2 ^ 60 }
+    ensures acted { W.acted out.old (all_outer cores core (E.machine.actions (E.state engine.old) inbox.now draws.now)) out.new }
+    ensures state { E.state engine.new ≡ E.machine.next (E.state engine.old) inbox.now draws.now }
+{
+    let mut outward = Outward { out, cores, core };
+    engine.step(inbox, draws, &mut outward);
+}
 
 impl<E: Engine> Shards<E, Tape> {
     /// The core at this place makes its step, and its actions are done at once.
@@ -28,12 +58,7 @@ impl<E: Engine> Shards<E, Tape> {
             draws,
             ..
         } = bay;
-        let mut outward = Outward {
-            out,
-            cores,
-            core: core as u64,
-        };
-        engine.step(inbox, draws, &mut outward);
+        step_out(cores, core as u64, engine, inbox, draws, out);
     }
 }
 
@@ -54,9 +79,11 @@ impl<E: Engine + Send> Shards<E, Tape> {
         ensures short { result ≡ false → out.new ≡ out.old }
         ensures len { length self.new.bays.items ≡ length self.old.bays.items }
     {
-        if order.len() == 1 && self.bays[order[0]].given {
-            self.act_alone(order[0], out);
-            return true;
+        if let Some(core) = lone(order) {
+            if self.bays[core].given {
+                self.act_alone(core, out);
+                return true;
+            }
         }
         self.step_all(rt);
         if !self.play(order, out) {

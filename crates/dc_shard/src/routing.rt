@@ -1,5 +1,5 @@
 //! Which core an event goes to, and how links are numbered inside a core.
-ghost use Rattle.std.specs.Prelude.{◌≡◌, ◌≢◌, ◌<◌, ◌≤◌, ℕ, false, length};
+ghost use Rattle.std.specs.Prelude.{◌≡◌, ◌≢◌, ◌<◌, ◌≤◌, ℕ, true, false, length};
 ghost use Rattle.dc_model.specs.Event.{tick};
 ghost use Rattle.dc_model.specs.Message.{request_of};
 ghost use Rattle.dc_engine.specs.View.{kind_of};

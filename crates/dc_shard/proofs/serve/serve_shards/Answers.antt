@@ -83,13 +83,13 @@ act-requires-clause-steps g c κs within =
     subst (MayStepEach m 1) (sym round.states) (may_less m state (draws_of c.rounds.draws.seed) (c.min-limit.result - c.rounds.handled) 1 (states_of state c.rounds.shards.bays.items) some so.steps)
 
 pub act-requires-clause-places : goal.act-requires-clause-places
-act-requires-clause-places g c =
+act-requires-clause-places g c κs within =
     let mid = c.take_round-held.new.shards.bays.items in
     let round = c.take_round-held.ensures.run.1.1.1.0 in
     subst (AllBelow (length mid)) (sym c.deref.ensures.0) round.places
 
 pub act-requires-clause-count : goal.act-requires-clause-count
-act-requires-clause-count g c =
+act-requires-clause-count g c κs within =
     let m = g.E.Engine.machine in
     let state = g.E.Engine.state in
     let run = c.take_round-held.ensures.run in
@@ -97,7 +97,7 @@ act-requires-clause-count g c =
     round.count ∙ sym (ap length round.in_order ∙ order_length m (states_of state c.rounds.shards.bays.items) (draws_of c.rounds.draws.seed) c.rounds.draws.given (c.begin.new.inbox ∷ run.0)) ∙ sym (ap length c.deref.ensures.0)
 
 pub act-requires-clause-blank : goal.act-requires-clause-blank
-act-requires-clause-blank g c = c.take_round-held.ensures.run.1.1.1.0.outs
+act-requires-clause-blank g c κs within = c.take_round-held.ensures.run.1.1.1.0.outs
 
 pub returns-then-not-act-clause-run : goal.returns-then-not-act-clause-run
 returns-then-not-act-clause-run g c =
