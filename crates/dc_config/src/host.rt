@@ -3,6 +3,7 @@ ghost use Rattle.std.specs.Prelude.{◌≡◌, ℕ, None, Option, refl};
 ghost use Rattle.std.proofs.Common.{◌∙◌};
 ghost use Rattle.dc_event.specs.Causes.{counted};
 
+use crate::unreadable::{Cause, Unreadable};
 use crate::{FileName, FileRead, Files, Listed};
 use std::alloc::Global;
 use std::io::{ErrorKind, Read};
@@ -17,12 +18,13 @@ const MOST_BYTES: usize = 64_000_000;
 const MOST_READ: usize = 1_000_000_000;
 
 /// The folders and files of a runtime. They tell nothing. A folder or file that can't be read, a name that isn't UTF-8, a file of over
-/// 64000000 bytes, and one with which all bytes that were read pass 1000000000 are faults.
+/// 64000000 bytes, and one with which all bytes that were read pass 1000000000 are faults. Which of them was the last one, and why, is kept.
 #[derive(Drop)]
 pub struct HostFiles<R> {
     rt: R,
     faults: u64,
     read: usize,
+    unreadable: Option<Unreadable>,
 }
 
 impl<R> Model for HostFiles<R> {
@@ -42,6 +44,7 @@ impl<R> HostFiles<R> {
             rt,
             faults: 0,
             read: 0,
+            unreadable: None,
         }
     }
 
@@ -50,11 +53,20 @@ impl<R> HostFiles<R> {
         MOST_BYTES.min(MOST_READ.saturating_sub(self.read))
     }
 
-    /// Counts a fault.
-    fn fail(&mut self)
+    /// The folder or file that couldn't be read, where there was one: the last one.
+    pub fn unreadable(&self) -> Option<&Unreadable> {
+        self.unreadable.as_ref()
+    }
+
+    /// Counts a fault, and keeps which path it was and why.
+    fn fail(&mut self, alloc: Global, path: &str, cause: Cause)
         ensures { self.new ≡ counted self.old }
     {
         self.faults = self.faults.saturating_add(1);
+        self.unreadable = Some(Unreadable {
+            path: String::from_str(alloc, path).ok(),
+            cause,
+        });
     }
 }
 
@@ -97,7 +109,7 @@ impl<R: FileSystem + Alloc + Clone + Drop> Files for HostFiles<R> {
                 ErrorKind::NotFound => Listed::Absent,
                 ErrorKind::OutOfMemory => Listed::NoMemory,
                 _ => {
-                    self.fail();
+                    self.fail(alloc, folder, Cause::System(why));
                     Listed::Failed
                 }
             },
@@ -112,14 +124,14 @@ impl<R: FileSystem + Alloc + Clone + Drop> Files for HostFiles<R> {
                 FileRead::Bytes(bytes)
             }
             Ok(_) => {
-                self.fail();
+                self.fail(alloc, path, Cause::TooLong);
                 FileRead::Failed
             }
             Err(why) => match why.kind() {
                 ErrorKind::NotFound => FileRead::Absent,
                 ErrorKind::OutOfMemory => FileRead::NoMemory,
                 _ => {
-                    self.fail();
+                    self.fail(alloc, path, Cause::System(why));
                     FileRead::Failed
                 }
             },

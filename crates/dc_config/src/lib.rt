@@ -12,6 +12,7 @@ mod memory;
 mod modes;
 #[cfg(test)]
 mod tests;
+mod unreadable;
 mod variables;
 
 pub use conf::load;
@@ -25,4 +26,5 @@ pub use modes::{
     MOST_CORES, cores_in, events_in, first_bad_kept, first_bad_recorded, first_bad_split, is_set,
 };
 pub use std::alloc::AllocError as NoMemory;
+pub use unreadable::Unreadable;
 pub use variables::{first_bad, names};

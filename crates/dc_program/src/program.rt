@@ -81,6 +81,13 @@ fn tell_failure<R: Net + Wait + Clock + Eprint>(rt: &HostRuntime, calls: &Os<&R>
     }
 }
 
+/// Tells on standard error which folder or file couldn't be read, and why, where one couldn't.
+fn tell_unreadable<R>(rt: &HostRuntime, files: &HostFiles<R>) {
+    if let Some(unreadable) = files.unreadable() {
+        let _told = writeln!(rt.stderr(), "dnscache: warning: {unreadable}");
+    }
+}
+
 /// How a run ended, where the rest of its log was written or not: one that ended well and whose log isn't whole is a fault of the world.
 fn ended(status: Status, logged: bool) -> Status {
     match status {
@@ -100,12 +107,13 @@ fn run<R: Threads + Sync + Net + Wait + Clock + Eprint, I: Source, O: Sink>(
     let Ok(mut world) = world(system, rt.alloc(), asked.shares_port) else {
         return Status::NoMemory;
     };
+    let mut files = HostFiles::new(rt);
     let status = dnscache(
         system,
         rt.alloc(),
         &asked.words,
         &asked.environment,
-        &mut HostFiles::new(rt),
+        &mut files,
         &mut ReaderSource::new(rt.stdin()),
         &mut WriterSink::new(rt.stdout()),
         &mut world,
@@ -116,6 +124,9 @@ fn run<R: Threads + Sync + Net + Wait + Clock + Eprint, I: Source, O: Sink>(
     let status = ended(status, world.finish());
     if status == Status::WorldFault {
         tell_failure(rt, world.system());
+    }
+    if status == Status::FilesFault {
+        tell_unreadable(rt, &files);
     }
     status
 }

@@ -1,6 +1,6 @@
 //! A tool over the system's own files and sockets.
 
-use crate::report::{exit_code, report};
+use crate::report::{exit_code, report, tell_unreadable};
 use dc_config::{Env as Environment, HostFiles};
 use dc_event::{ReaderSource, WriterSink};
 use dc_os::Os;
@@ -62,7 +62,12 @@ fn world<R: Net + AllocGlobal>(rt: &R) -> Result<SocketWorld<&R, Os<&R>>, AllocE
 }
 
 /// Runs a tool with these words, and a seed of the system's random source.
-fn run_words<T: Tool, R: Host, O: Write + Drop>(rt: &R, words: &[String], output: O) -> ToolStatus {
+fn run_words<T: Tool, R: Host, O: Write + Drop>(
+    rt: &R,
+    name: &str,
+    words: &[String],
+    output: O,
+) -> ToolStatus {
     let Ok(environment) = environment(rt) else {
         return ToolStatus::NoMemory;
     };
@@ -73,21 +78,25 @@ fn run_words<T: Tool, R: Host, O: Write + Drop>(rt: &R, words: &[String], output
     let Ok(mut world) = world(rt) else {
         return ToolStatus::NoMemory;
     };
-    run::<T, _, _, _>(
+    let mut files = HostFiles::new(rt);
+    let status = run::<T, _, _, _>(
         rt.alloc(),
         words,
         &environment,
-        &mut HostFiles::new(rt),
+        &mut files,
         seed,
         &mut WriterSink::new(output),
         &mut world,
         u64::MAX,
-    )
+    );
+    tell_unreadable(rt, name, &files);
+    status
 }
 
 /// Runs the filter with these words, and a seed of the system's random source.
 fn run_filter<R: Host, I: Read + Drop, O: Write + Drop>(
     rt: &R,
+    name: &str,
     words: &[String],
     input: I,
     output: O,
@@ -102,17 +111,20 @@ fn run_filter<R: Host, I: Read + Drop, O: Write + Drop>(
     let Ok(mut world) = world(rt) else {
         return ToolStatus::NoMemory;
     };
-    dc_filtering::run(
+    let mut files = HostFiles::new(rt);
+    let status = dc_filtering::run(
         rt.alloc(),
         words,
         &environment,
-        &mut HostFiles::new(rt),
+        &mut files,
         seed,
         &mut ReaderSource::new(input),
         &mut WriterSink::new(output),
         &mut world,
         u64::MAX,
-    )
+    );
+    tell_unreadable(rt, name, &files);
+    status
 }
 
 /// Says how a tool ended, and answers the exit status.
@@ -124,7 +136,7 @@ fn end<R: Host>(rt: &R, name: &str, status: ToolStatus) -> ExitCode {
 /// Runs a tool, says how it ended, and answers the exit status.
 pub fn tool<T: Tool, R: Host, O: Write + Drop>(rt: &R, name: &str, output: O) -> ExitCode {
     let status = match words(rt) {
-        Ok(words) => run_words::<T, R, O>(rt, &words, output),
+        Ok(words) => run_words::<T, R, O>(rt, name, &words, output),
         Err(why) => unreadable(&why),
     };
     end(rt, name, status)
@@ -138,7 +150,7 @@ pub fn filter<R: Host, I: Read + Drop, O: Write + Drop>(
     output: O,
 ) -> ExitCode {
     let status = match words(rt) {
-        Ok(words) => run_filter(rt, &words, input, output),
+        Ok(words) => run_filter(rt, name, &words, input, output),
         Err(why) => unreadable(&why),
     };
     end(rt, name, status)

@@ -3,6 +3,7 @@ ghost use Rattle.std.specs.Prelude.{◌≡◌};
 ghost use Rattle.std.specs.Process.{exit_status};
 ghost use Rattle.dc_tool_host.specs.Exit.{exit_of};
 
+use dc_config::HostFiles;
 use dc_stub::ToolStatus;
 use std::io::Eprint;
 use std::process::ExitCode;
@@ -24,6 +25,13 @@ fn text_of(status: ToolStatus) -> &'static str {
         ToolStatus::NoMemory => "out of memory",
         ToolStatus::ReadFault => "unable to read input",
         ToolStatus::LongLine(_) => "line too long",
+    }
+}
+
+/// Writes which folder or file couldn't be read, and why, where one couldn't.
+pub(crate) fn tell_unreadable<R: Eprint, F>(rt: &R, name: &str, files: &HostFiles<F>) {
+    if let Some(unreadable) = files.unreadable() {
+        let _told = eprintln!(rt; "{name}: warning: {unreadable}");
     }
 }
 
