@@ -3,7 +3,10 @@
 forwarder. Each stands alone on the first processor, with its log in a file, and dnsperf and the authoritative servers on the others; rounds are
 interleaved, and medians told. It isn't part of the gate, and is skipped where a tool is missing.
 
-  trials/speed.py PROGRAM [ROUNDS] [SECONDS]
+  trials/speed.py PROGRAM [ROUNDS] [SECONDS [BEFORE]]
+
+With BEFORE, another build of the program, only these two are measured, in turn: at least 0.98 times as many names a second as it are wanted, in the
+cache and to be fetched.
 
 Wanted: names in the cache at 0.8 of the echo, with at most 2 microseconds of the program's own time a name; names to be fetched at 1.5 times Debian's
 dnscache, with less of the program's own time a name; of 10,000 fetched names a second the slowest in a hundred answered sooner than by either peer;
@@ -79,10 +82,10 @@ def folder_of(room, name):
     return folder
 
 
-def ours(room, address, send_from, size=100_000_000):
+def ours(room, address, send_from, size=100_000_000, program=None):
     folder = folder_of(room, address)
     settings = near.settings(address, send_from) | {"CACHESIZE": str(size)}
-    return pinned("0", ["bash", "-c", 'exec "$0" < seed 2> log', PROGRAM], cwd=folder, env=settings)
+    return pinned("0", ["bash", "-c", 'exec "$0" < seed 2> log', program or PROGRAM], cwd=folder, env=settings)
 
 
 def debians(room, address, send_from):
@@ -209,6 +212,21 @@ def judge(room, count, seconds):
     says("a start with a cache of 1 GB", taken < 0.2, f"{taken:.3f} seconds, 0.2 wanted")
 
 
+def beside(room, before, count, seconds):
+    """This build beside another one."""
+    parties = {
+        "this dnscache": (ours(room, "127.53.11.53", "127.53.11.63"), "127.53.11.53"),
+        "the build before": (ours(room, "127.53.11.56", "127.53.11.66", program=before), "127.53.11.56"),
+    }
+    for _, address in parties.values():
+        if not answers(address):
+            sys.exit(f"no answer from {address}")
+    for kind in ["cached", "fetched"]:
+        rates = rounds(room, parties, kind, count, seconds)
+        ratio = rates["this dnscache"][0] / rates["the build before"][0]
+        says(f"names {kind}, against the build before", ratio >= 0.98, f"{ratio:.3f} times it, 0.98 wanted")
+
+
 PROGRAM = os.path.realpath(sys.argv[1])
 OTHERS = f"1-{os.cpu_count() - 1}" if os.cpu_count() > 1 else "0"
 for tool in TOOLS:
@@ -220,7 +238,11 @@ try:
     subprocess.run(["gcc", "-O2", "-o", room + "/limits", here + "/limits.c"], check=True)
     authority(room, "root", ROOT, f".:{ROOT}:a.root-servers\n&trial:{SERVER}:a.ns.trial\n")
     authority(room, "trial", SERVER, f".trial:{SERVER}:a.ns.trial\n+*.w.trial:192.0.2.7:86400\n")
-    judge(room, int(sys.argv[2]) if len(sys.argv) > 2 else 5, int(sys.argv[3]) if len(sys.argv) > 3 else 5)
+    count, seconds = (int(sys.argv[i]) if len(sys.argv) > i else 5 for i in (2, 3))
+    if len(sys.argv) > 4:
+        beside(room, os.path.realpath(sys.argv[4]), count, seconds)
+    else:
+        judge(room, count, seconds)
 finally:
     for process in running:
         process.kill()
