@@ -1,6 +1,5 @@
 -- Frames whose server names are few.
-use Rattle.std.proofs.Common.{ℕ, zero, suc, ◌+◌, ◌<◌, ◌≤◌, List, [], ◌∷◌, length, take, get_or, arith, subst, add-one}
-use Rattle.std.proofs.lemmas.List.{take_all}
+use Rattle.std.proofs.Common.{ℕ, zero, suc, ◌+◌, ◌<◌, ◌≤◌, List, [], ◌∷◌, length, take, get_or, arith, add-one}
 use Rattle.dc_machine.specs.Query as machine
 use Rattle.dc_machine.specs.Good.{AreShort}
 use Rattle.dc_frames.specs.declared.frame.Frame.{Frame}
@@ -36,7 +35,7 @@ none_short : AreShort []
 unfolding AreShort
 none_short = tt
 
-pub all_short : (xs : List Frame) (n : ℕ) → length xs ≤ n → AllShort (take n xs) → AreShort (onto xs [])
-all_short xs n h s = onto_short xs [] (subst AllShort (take_all n xs h) s) none_short
+pub all_short : (xs : List Frame) (n : ℕ) → AllShort (take n xs) → AreShort (onto (take n xs) [])
+all_short xs n s = onto_short (take n xs) [] s none_short
 
 pub ruleset shorts = (short-nil, short_none, short_more, all_short)
