@@ -1,5 +1,5 @@
 -- Reading records one after another.
-use Rattle.std.proofs.Common.{◌≡◌, ℕ, suc, List, [], ◌∷◌, ◌++◌, map, refl, sym, ◌∙◌, ap, append_assoc, Option, Some, None, option_map, option_and_then}
+use Rattle.std.proofs.Common.{◌≡◌, ℕ, suc, List, [], ◌∷◌, ◌++◌, map, refl, sym, ◌∙◌, ap, subst, append_assoc, Option, Some, None, option_map, option_and_then}
 use Rattle.std.proofs.lemmas.List.{map-append, append-nil}
 use Rattle.dc_model.specs.Message.{Section, answer, authority, additional, Record, record_at, RecordsRead, records_at, in_front, behind, QuestionRead, question_of, u16_at, message_of, message_with}
 use Rattle.dc_packet.specs.declared.record.Rr.{Rr}
@@ -50,6 +50,10 @@ reading_ends p s count start at before rows h = record {
   ends = refl;
   places = h.places ∙ ap (λ l. before ++ map row_of l) (sym (append-nil h.done));
 }
+
+-- the first section stands behind no others
+pub none_before : (p : List ℕ) (s : Section) (count at after : ℕ) (before rows : List Rr) → before ≡ [] → IsFilled p s count at before after rows → IsFilled p s count at [] after rows
+none_before p s count at after before rows e h = subst (λ xs. IsFilled p s count at xs after rows) e h
 
 -- the three sections of a message
 

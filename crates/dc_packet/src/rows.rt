@@ -1,5 +1,5 @@
-//! Reading a message's records into places.
-ghost use Rattle.std.specs.Prelude.{◌≡◌, ◌+◌, ◌*◌, ◌≤◌, length, take, vec_len, IfSome, MatchOption};
+//! Reading a message's records into rows.
+ghost use Rattle.std.specs.Prelude.{◌≡◌, ◌+◌, ◌*◌, ◌≤◌, length, vec_len, vec_capacity, IfSome, MatchOption};
 ghost use Rattle.dc_model.specs.Message as model;
 ghost use Rattle.dc_packet.specs.Rows.{named_section};
 ghost use Rattle.dc_packet.specs.Filling.{IsFilled, IsWhole};
@@ -12,76 +12,57 @@ use crate::record::{Rr, Section, record_at};
 /// and a record 11 at least.
 pub(crate) const PLACES: usize = 5957;
 
-/// How far a message was read.
-#[derive(Clone, Copy, Debug)]
-struct Filled {
-    /// The number of records.
-    rows: usize,
-    /// The place behind the last of them.
-    at: usize,
-}
-
-/// Reads `count` records of a section, which stand one after another from a place on, behind `filled` others. `None` where one
-/// of them can't be read.
+/// Reads `count` records of a section, which stand one after another from a place on, behind the rows that are there. Answers the
+/// place behind the last of them, or `None` where one of them can't be read.
 fn read_section(
     rows: &mut Vec<Rr>,
-    mut filled: usize,
     packet: &[u8],
     section: Section,
     count: u16,
     mut at: usize,
-) -> Option<Filled>
-    requires places { vec_len rows.old ≡ 5957 }
+) -> Option<usize>
+    requires places { 5957 ≤ vec_capacity rows.old }
     requires packet { length packet.now ≤ 65535 }
-    requires room { 17 + 11 * filled ≤ at }
+    requires room { 17 + 11 * vec_len rows.old ≤ at }
     requires within { at ≤ length packet.now }
-    ensures places { vec_len rows.new ≡ 5957 }
-    ensures read { MatchOption result (model.records_at count packet.now (named_section section) at ≡ None) (λ f. IsFilled packet.now (named_section section) count at (take filled rows.old.items) f.at (take f.rows rows.new.items)) }
-    ensures room { IfSome result (λ f. 17 + 11 * f.rows ≤ f.at) }
-    ensures within { IfSome result (λ f. f.at ≤ length packet.now) }
+    ensures places { 5957 ≤ vec_capacity rows.new }
+    ensures read { MatchOption result (model.records_at count packet.now (named_section section) at ≡ None) (λ after. IsFilled packet.now (named_section section) count at rows.old.items after rows.new.items) }
+    ensures room { IfSome result (λ after. 17 + 11 * vec_len rows.new ≤ after) }
+    ensures within { IfSome result (λ after. after ≤ length packet.now) }
 {
     for _read in 0..count {
         let row = record_at(packet, section, at)?;
         at = row.at + row.len;
-        rows[filled] = row;
-        filled += 1;
+        rows.push_reserved(row);
     }
-    Some(Filled { rows: filled, at })
+    Some(at)
 }
 
-/// Reads a message's records, and answers how many there are. `None` where the packet is malformed.
-pub(crate) fn read_rows(rows: &mut Vec<Rr>, packet: &[u8]) -> Option<usize>
-    requires places { vec_len rows.old ≡ 5957 }
+/// Reads a message's records in place of the rows that are there. `None` where the packet is malformed.
+pub(crate) fn read_rows(rows: &mut Vec<Rr>, packet: &[u8]) -> Option<()>
+    requires places { 5957 ≤ vec_capacity rows.old }
     requires packet { length packet.now ≤ 65535 }
-    ensures places { vec_len rows.new ≡ 5957 }
-    ensures read { MatchOption result (model.message_of packet.now ≡ None) (λ n. IsWhole packet.now (take n rows.new.items)) }
-    ensures most { IfSome result (λ n. n ≤ 5956) }
-    ensures header { IfSome result (λ n. 12 ≤ length packet.now) }
+    ensures places { 5957 ≤ vec_capacity rows.new }
+    ensures read { MatchOption result (model.message_of packet.now ≡ None) (λ _. IsWhole packet.now rows.new.items) }
+    ensures most { IfSome result (λ _. vec_len rows.new ≤ 5956) }
+    ensures header { IfSome result (λ _. 12 ≤ length packet.now) }
 {
+    rows.clear();
     let question = question_of(packet)?;
     let answers = read_section(
         rows,
-        0,
         packet,
         Section::Answer,
         u16_at(packet, 6),
         question.after,
     )?;
-    let servers = read_section(
+    let servers = read_section(rows, packet, Section::Authority, u16_at(packet, 8), answers)?;
+    read_section(
         rows,
-        answers.rows,
-        packet,
-        Section::Authority,
-        u16_at(packet, 8),
-        answers.at,
-    )?;
-    let others = read_section(
-        rows,
-        servers.rows,
         packet,
         Section::Additional,
         u16_at(packet, 10),
-        servers.at,
+        servers,
     )?;
-    Some(others.rows)
+    Some(())
 }

@@ -15,43 +15,27 @@ use std::marker::Model;
 #[derive(Drop)]
 pub struct Table {
     rows: Vec<Rr>,
-    count: usize,
     rcode: u8,
 }
 
 impl Model for Table {
-    ghost use Rattle.std.specs.Prelude.{◌≡◌, ◌≤◌, take, vec_len};
+    ghost use Rattle.std.specs.Prelude.{◌≤◌, vec_len, vec_capacity};
     ghost use Rattle.dc_packet.specs.Rows.{Rows};
 
     ghost Value = { Rows };
 
-    ghost view = { λ t. record { rcode = t.rcode; rows = take t.count t.rows.items } };
+    ghost view = { λ t. record { rcode = t.rcode; rows = t.rows.items } };
 
-    ghost invariant = { λ t. (vec_len t.rows ≡ 5957) × (t.count ≤ 5956) };
+    ghost invariant = { λ t. (5957 ≤ vec_capacity t.rows) × (vec_len t.rows ≤ 5956) };
 }
-
-/// What an unused place holds.
-const BLANK: Rr = Rr {
-    section: Section::Answer,
-    owner: 0,
-    kind: 0,
-    class: 0,
-    ttl: 0,
-    at: 0,
-    len: 0,
-};
 
 impl Table {
     /// A table of no message. It takes memory for 5957 records.
     pub fn new(alloc: Global) -> Result<Table, AllocError>
         ensures { IfOk result (λ t. t ≡ no_rows) }
     {
-        let rows = vec![in alloc; BLANK; PLACES]?;
-        Ok(Table {
-            rows,
-            count: 0,
-            rcode: 0,
-        })
+        let rows = Vec::with_capacity(alloc, PLACES)?;
+        Ok(Table { rows, rcode: 0 })
     }
 
     /// Reads a message: its one question, and all its records. Refused exactly where the packet is malformed; the table is then
@@ -61,12 +45,11 @@ impl Table {
         ensures read { MatchResult result (λ _. AreRowsOf packet.now self.new) (λ _. model.message_of packet.now ≡ None) }
         ensures refused { OnErr result (self.new ≡ no_rows) }
     {
-        self.count = 0;
         self.rcode = 0;
-        let Some(count) = read_rows(&mut self.rows, packet) else {
+        let Some(()) = read_rows(&mut self.rows, packet) else {
+            self.rows.clear();
             return Err(Malformed);
         };
-        self.count = count;
         self.rcode = (u16_at(packet, 2) % 16) as u8;
         Ok(())
     }
@@ -76,7 +59,7 @@ impl Table {
         ensures value { result ≡ length self.now.rows }
         ensures most { result ≤ 5956 }
     {
-        self.count
+        self.rows.len()
     }
 
     /// The record of this number, counted from 0.
