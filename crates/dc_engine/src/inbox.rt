@@ -1,5 +1,5 @@
 //! The place of one event with its bytes.
-ghost use Rattle.std.specs.Prelude.{◌≡◌, ℕ, [], ◌∷◌, ◌^◌, ◌<◌, ◌≤◌, length, take, IfOk};
+ghost use Rattle.std.specs.Prelude.{◌≡◌, ℕ, [], ◌∷◌, ◌^◌, ◌<◌, ◌≤◌, length, IfOk};
 ghost use Rattle.dc_model.specs.Event.{IsEvent, tick};
 ghost use Rattle.dc_engine.specs.View.{kind_of, event_of};
 
@@ -10,15 +10,6 @@ use std::marker::Model;
 /// The most bytes that come with an event.
 pub const MOST_BYTES: usize = 65535;
 
-/// Copies these bytes to the front.
-fn fill(buffer: &mut [u8], bytes: &[u8])
-    requires { length bytes.now ≤ length buffer.old }
-    ensures front { take (length bytes.now) buffer.new ≡ bytes.now }
-    ensures len { length buffer.new ≡ length buffer.old }
-{
-    buffer[..bytes.len()].copy_from_slice(bytes);
-}
-
 /// One event with its bytes. Contracts see the event that `dc_model` has.
 #[derive(Drop)]
 pub struct Inbox {
@@ -27,15 +18,15 @@ pub struct Inbox {
 }
 
 impl Model for Inbox {
-    ghost use Rattle.std.specs.Prelude.{◌≡◌, ◌^◌, ◌<◌, ◌≤◌, take, length};
+    ghost use Rattle.std.specs.Prelude.{◌≡◌, ◌≤◌, vec_len, vec_capacity};
     ghost use Rattle.dc_model.specs.Event.{Event as ModelEvent, IsEvent};
     ghost use Rattle.dc_engine.specs.View.{event_of};
 
     ghost Value = { ModelEvent };
 
-    ghost view = { λ a. event_of a.event (take a.event.len a.buffer.items) };
+    ghost view = { λ a. event_of a.event a.buffer.items };
 
-    ghost invariant = { λ a. (a.event.len ≤ 65535) × (length a.buffer.items ≡ 65535) × IsEvent (event_of a.event (take a.event.len a.buffer.items)) };
+    ghost invariant = { λ a. (a.event.len ≡ vec_len a.buffer) × (vec_len a.buffer ≤ 65535) × (65535 ≤ vec_capacity a.buffer) × IsEvent (event_of a.event a.buffer.items) };
 }
 
 impl Inbox {
@@ -51,7 +42,7 @@ impl Inbox {
             port: 0,
             len: 0,
         };
-        let buffer = vec![in alloc; 0u8; MOST_BYTES]?;
+        let buffer = Vec::with_capacity(alloc, MOST_BYTES)?;
         Ok(Inbox { event, buffer })
     }
 
@@ -69,7 +60,7 @@ impl Inbox {
         ensures bytes { result.now ≡ self.now.bytes }
         ensures most { length result.now ≤ 65535 }
     {
-        &self.buffer[..self.event.len]
+        &self.buffer
     }
 
     /// Puts an event with its bytes in place of the one before.
@@ -81,6 +72,9 @@ impl Inbox {
         ensures bounds { IsEvent self.new }
     {
         self.event = event;
-        fill(&mut self.buffer, bytes);
+        self.buffer.clear();
+        let Ok(()) = self.buffer.extend_from_slice(bytes) else {
+            unreachable!()
+        };
     }
 }
