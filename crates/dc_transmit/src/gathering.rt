@@ -1,5 +1,5 @@
 //! The bytes that are gathered of a stream, and the packet that is kept of an answer.
-ghost use Rattle.std.specs.Prelude.{◌≡◌, ◌≤◌, ◌<◌, ◌+◌, ◌++◌, length, take, IfOk, IfSome, MatchOption, true, false};
+ghost use Rattle.std.specs.Prelude.{◌≡◌, ◌≤◌, ◌<◌, ◌+◌, ◌++◌, length, vec_len, vec_capacity, IfOk, IfSome, MatchOption, true, false};
 ghost use Rattle.dc_model.specs.Transmission.{is_whole};
 ghost use Rattle.dc_transmit.specs.Gathered.{no_bytes, appended, packet_of, message_of};
 
@@ -10,33 +10,35 @@ use std::marker::Model;
 /// Room for the longest message behind its length.
 const ROOM: usize = 65537;
 
-/// Bytes in one buffer, which is neither cleared nor moved as a whole: a length says what counts. The packet is what stands from
-/// `start` on; while a stream is gathered, that is what stands behind the length.
+/// Bytes in a buffer that has room for all. The packet is what stands from `start` on; while a stream is gathered, that is what
+/// stands behind the length.
 #[derive(Drop)]
 pub(crate) struct Gathering {
     buffer: Vec<u8>,
-    len: usize,
     start: usize,
 }
 
 impl Model for Gathering {
-    ghost use Rattle.std.specs.Prelude.{◌≡◌, ◌≤◌, ◌+◌, take, length};
+    ghost use Rattle.std.specs.Prelude.{◌≤◌, ◌+◌, vec_len, vec_capacity};
     ghost use Rattle.dc_transmit.specs.Gathered.{Gathered};
 
     ghost Value = { Gathered };
 
-    ghost view = { λ a. record { bytes = take a.len a.buffer.items; start = a.start } };
+    ghost view = { λ a. record { bytes = a.buffer.items; start = a.start } };
 
-    ghost invariant = { λ a. (length a.buffer.items ≡ 65537) × (a.len ≤ 65537) × (a.start ≤ a.len) × (a.len ≤ a.start + 65535) };
+    ghost invariant = { λ a. (65537 ≤ vec_capacity a.buffer) × (vec_len a.buffer ≤ 65537) × (a.start ≤ vec_len a.buffer) × (vec_len a.buffer ≤ a.start + 65535) };
 }
 
-/// Writes bytes at a place.
-fn put(buffer: &mut [u8], at: usize, bytes: &[u8])
-    requires { at + length bytes.now ≤ length buffer.old }
-    ensures front { take (at + length bytes.now) buffer.new ≡ take at buffer.old ++ bytes.now }
-    ensures len { length buffer.new ≡ length buffer.old }
+/// Puts bytes behind those in a buffer that has room for them.
+fn extend(buffer: &mut Vec<u8>, bytes: &[u8])
+    requires { vec_len buffer.old + length bytes.now ≤ vec_capacity buffer.old }
+    ensures bytes { buffer.new.items ≡ buffer.old.items ++ bytes.now }
+    ensures len { vec_len buffer.new ≡ vec_len buffer.old + length bytes.now }
+    ensures room { vec_capacity buffer.old ≤ vec_capacity buffer.new }
 {
-    buffer[at..at + bytes.len()].copy_from_slice(bytes);
+    let Ok(()) = buffer.extend_from_slice(bytes) else {
+        unreachable!()
+    };
 }
 
 impl Gathering {
@@ -44,19 +46,15 @@ impl Gathering {
     pub(crate) fn new(alloc: Global) -> Result<Gathering, AllocError>
         ensures { IfOk result (λ g. g ≡ no_bytes) }
     {
-        let buffer = vec![in alloc; 0u8; ROOM]?;
-        Ok(Gathering {
-            buffer,
-            len: 0,
-            start: 0,
-        })
+        let buffer = Vec::with_capacity(alloc, ROOM)?;
+        Ok(Gathering { buffer, start: 0 })
     }
 
     /// Takes all bytes away.
     pub(crate) fn clear(&mut self)
         ensures { self.new ≡ no_bytes }
     {
-        self.len = 0;
+        self.buffer.clear();
         self.start = 0;
     }
 
@@ -64,10 +62,9 @@ impl Gathering {
     pub(crate) fn append(&mut self, bytes: &[u8])
         ensures { self.new.bytes ≡ appended self.old.bytes bytes.now }
     {
-        let count = bytes.len().min(ROOM - self.len);
-        put(&mut self.buffer, self.len, &bytes[..count]);
-        self.len += count;
-        self.start = self.len.min(2);
+        let count = bytes.len().min(ROOM - self.buffer.len());
+        extend(&mut self.buffer, &bytes[..count]);
+        self.start = self.buffer.len().min(2);
     }
 
     /// Keeps a packet in place of the bytes.
@@ -75,8 +72,8 @@ impl Gathering {
         requires { length packet.now ≤ 65535 }
         ensures { packet_of self.new ≡ packet.now }
     {
-        put(&mut self.buffer, 0, packet);
-        self.len = packet.len();
+        self.buffer.clear();
+        extend(&mut self.buffer, packet);
         self.start = 0;
     }
 
@@ -87,11 +84,11 @@ impl Gathering {
         ensures most { IfSome result (λ m. length m.now ≤ 65535) }
         ensures room { MatchOption result (length self.now.bytes < 65537) (λ m. Unit {0}) }
     {
-        if self.len < 2 {
+        if self.buffer.len() < 2 {
             return None;
         }
         let behind = 2 + u16_at(&self.buffer, 0) as usize;
-        if self.len < behind {
+        if self.buffer.len() < behind {
             return None;
         }
         Some(&self.buffer[2..behind])
@@ -102,7 +99,8 @@ impl Gathering {
         requires { is_whole self.old.bytes ≡ true }
         ensures { packet_of self.new ≡ message_of self.old.bytes }
     {
-        self.len = 2 + u16_at(&self.buffer, 0) as usize;
+        let behind = 2 + u16_at(&self.buffer, 0) as usize;
+        self.buffer.truncate(behind);
         self.start = 2;
     }
 
@@ -111,6 +109,6 @@ impl Gathering {
         ensures packet { result.now ≡ packet_of self.now }
         ensures most { length result.now ≤ 65535 }
     {
-        &self.buffer[self.start..self.len]
+        &self.buffer[self.start..]
     }
 }
